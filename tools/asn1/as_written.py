@@ -12,7 +12,7 @@ from itertools import count
 from .errors import Place
 from .resolver.classes import base_of, follow, is_parameter, meant
 from .scope import Env, Library
-from .spelling import field
+from .spelling import field, numbered
 from .syntax import (
     BitStringType,
     ChoiceType,
@@ -82,12 +82,13 @@ class Part:
     component: Component
     env: Env
     number: int | None = None  # of its automatic tag (25.7 to 25.9, 29.2)
+    spelled: str = ""
 
     @property
     def field_name(self) -> str:
         """Its name as a field of a struct."""
         given = [note.argument for note in self.component.annotations if note.name == "name"]
-        return given[0] if given and given[0] else field(self.component.name)
+        return given[0] if given and given[0] else self.spelled
 
 
 Key = tuple[Place, str]
@@ -100,7 +101,10 @@ def key_of(component: Component) -> Key:
 
 def fields(library: Library, env: Env, type_: FieldsType) -> list[Part]:
     """The components in the order of their encodings: that of the text, and of a SET that of the tags (X.690 10.3)."""
-    parts = [part for part in components(library, env, type_) if not is_lacking(library, part) or not may_be_absent(part)]
+    parts = components(library, env, type_)
+    names = numbered([field(part.component.name) for part in parts])
+    parts = [replace(part, spelled=name) for part, name in zip(parts, names)]
+    parts = [part for part in parts if not is_lacking(library, part) or not may_be_absent(part)]
     return sorted(parts, key=lambda part: tag_of(library, part)) if type_.is_set else parts
 
 
@@ -114,19 +118,31 @@ def components(library: Library, env: Env, type_: FieldsType) -> list[Part]:
         inner, base = base_of(library, env, one.type)
         assert isinstance(base, FieldsType)
         parts += [part for part in components(library, inner, base) if not part.component.is_addition]
-    return numbered(env, parts, [one for one in type_.components if isinstance(one, Component)])
+    return tagged(env, parts, [one for one in type_.components if isinstance(one, Component)])
 
 
 def alternatives(library: Library, env: Env, type_: ChoiceType) -> list[Part]:
     """The alternatives in the order of the text."""
-    parts = numbered(env, [Part(one, env) for one in type_.alternatives], list(type_.alternatives))
+    parts = tagged(env, [Part(one, env) for one in type_.alternatives], list(type_.alternatives))
     return [part for part in parts if not is_lacking(library, part)]
 
 
 def is_lacking(library: Library, part: Part) -> bool:
-    """Whether a component is of a type whose tag the layer refuses."""
-    base = base_of(library, part.env, part.component.type)[1]
-    return isinstance(base, SimpleType) and base.simple in UNREADABLE
+    """Whether a component is of a type whose tag the layer refuses, with no implicit tag in its place."""
+    env, type_ = part.env, part.component.type
+    if part.number is not None and not is_parameter(env, type_):
+        return False
+    while True:
+        if isinstance(type_, TaggedType) and not is_explicit(env, type_):
+            return False
+        if isinstance(type_, (TaggedType, ConstrainedType)):
+            type_ = type_.type
+        elif isinstance(type_, ReferenceType):
+            env, type_ = follow(library, env, type_)
+        elif isinstance(type_, (FieldOfClass, SelectionType)):
+            env, type_ = meant(library, env, type_)
+        else:
+            return isinstance(type_, SimpleType) and type_.simple in UNREADABLE
 
 
 def may_be_absent(part: Part) -> bool:
@@ -134,7 +150,7 @@ def may_be_absent(part: Part) -> bool:
     return part.component.optional or part.component.default is not None
 
 
-def numbered(env: Env, parts: list[Part], own: list[Component]) -> list[Part]:
+def tagged(env: Env, parts: list[Part], own: list[Component]) -> list[Part]:
     """With automatic tags from 0, those of the root first, where no component of the text has a tag (25.7 to 25.9, 29.2)."""
     if env.scope.module.tag_default is not TagDefault.AUTOMATIC or any(isinstance(one.type, TaggedType) for one in own):
         return parts
@@ -153,7 +169,7 @@ def tag_of(library: Library, part: Part) -> tuple[int, int]:
 
 
 def first_tag(library: Library, env: Env, type_: Type) -> tuple[int, int]:
-    """The tag that the encodings of a type begin with, of which there is one."""
+    """The tag that the encodings of a type begin with; of a CHOICE the least of its tags."""
     if isinstance(type_, TaggedType):
         number = type_.number if isinstance(type_.number, int) else number_of(library, env, type_.number)
         return type_.tag_class.value, number
@@ -164,8 +180,7 @@ def first_tag(library: Library, env: Env, type_: Type) -> tuple[int, int]:
     if isinstance(type_, (FieldOfClass, SelectionType)):
         return first_tag(library, *meant(library, env, type_))
     if isinstance(type_, ChoiceType):
-        (only,) = alternatives(library, env, type_)
-        return tag_of(library, only)
+        return min(tag_of(library, one) for one in alternatives(library, env, type_))
     return TagClass.UNIVERSAL.value, universal(type_)
 
 

@@ -8,6 +8,7 @@ from enum import Enum
 
 from .annotations import ANNOTATION, is_annotations
 from .errors import AsnError, Place
+from .reading import check_characters
 
 
 class Kind(Enum):
@@ -173,6 +174,7 @@ class Lexer:
                 self.push(Kind.SYMBOL, symbol, self.at + len(symbol))
                 return
         shown = self.text[self.at]
+        check_characters(shown, self.place(self.at))
         raise AsnError(
             self.place(self.at),
             f"the character {shown!r} is none of ASN.1's",
@@ -208,6 +210,7 @@ class Lexer:
             return
         found = TEXT.match(self.text, self.at)
         if found:
+            check_characters(found.group(), self.place(self.at))
             self.push(Kind.TEXT, found.group(1).replace('""', '"'), found.end())
             return
         raise AsnError(

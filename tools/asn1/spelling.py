@@ -76,3 +76,15 @@ def field(name: str) -> str:
 def screaming(name: str) -> str:
     """As a constant: `id-pkix-ocsp` is `ID_PKIX_OCSP`."""
     return "_".join(words(name)).upper()
+
+
+def numbered(names: list[str]) -> list[str]:
+    """The names, with the least number from 2 on that makes it another after each that stands before it, or that a later one has."""
+    found: list[str] = []
+    for place, name in enumerate(names):
+        number, other = 1, name
+        while other in found or (number > 1 and other in names[place:]):
+            number += 1
+            other = f"{name}_{number}" if name.isupper() else f"{name}{number}"
+        found.append(other)
+    return found

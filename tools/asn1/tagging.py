@@ -25,8 +25,12 @@ def automatic(components: list[Component]) -> list[Component]:
 def alternatives(env: Env, type_: ChoiceType) -> list[Component]:
     """The alternatives with automatic tags, if the module gives them some (29.2)."""
     parts = list(type_.alternatives)
-    is_automatic = env.scope.module.tag_default is TagDefault.AUTOMATIC and not are_tagged(parts)
-    return automatic(parts) if is_automatic else parts
+    return automatic(parts) if has_automatic_tags(env, parts) else parts
+
+
+def has_automatic_tags(env: Env, components: list[Component]) -> bool:
+    """Whether the components of a type of the module get automatic tags (25.7, 29.2)."""
+    return env.scope.module.tag_default is TagDefault.AUTOMATIC and not are_tagged(components)
 
 
 def untagged(type_: Type) -> Type:
@@ -82,13 +86,15 @@ def check_all(fields: tuple[Field, ...], rule: str) -> None:
 
 
 def in_order_of_tags(fields: tuple[Field, ...]) -> tuple[Field, ...]:
-    """The components of a SET as they are encoded (X.690 10.3), each of which has one tag."""
-    for part in fields:
-        tags = tags_of(part.type)
-        if tags is None or len(tags) != 1:
+    """The components of a SET as they are encoded (X.690 10.3): no tag of another stands between those of a CHOICE."""
+    known = [(sorted(tags_of(part.type) or []), part) for part in fields]
+    known.sort(key=lambda one: one[0][:1])
+    for place, (tags, part) in enumerate(known):
+        others = known[place + 1][0] if place + 1 < len(known) else []
+        if not tags or (others and tags[-1] > others[0]):
             raise AsnError(
                 part.place,
-                f"the component '{part.name}' of a SET has more than one tag",
+                f"the component '{part.name}' of a SET has tags between which those of another stand",
                 "write a tag before it, as '[0]': else its place depends on its value (X.690 10.3)",
             )
-    return tuple(sorted(fields, key=lambda part: min(tags_of(part.type) or [])))
+    return tuple(part for _, part in known)

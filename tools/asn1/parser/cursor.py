@@ -10,6 +10,7 @@ from typing import NoReturn
 from ..annotations import is_annotations
 from ..errors import AsnError, Place
 from ..lexer import Annotation, Kind, Token, tokens_of
+from ..reading import quotable
 
 DEEPEST = 40  # types, or constraints, within one another: what reads and writes them calls itself
 QUOTED_AS = {Kind.BITS: "B", Kind.HEX: "H"}
@@ -131,7 +132,7 @@ class Cursor:
         """The lines from an item to the last one taken, as they stand, but with no annotations, and with spaces for tabs."""
         start = self.text.rfind("\n", 0, first.start) + 1
         indent = len(self.text[start : first.start].expandtabs())
-        text = self.text[start : self.tokens[self.at - 1].end].expandtabs()[indent:]
+        text = quotable(self.text[start : self.tokens[self.at - 1].end]).expandtabs()[indent:]
         text = COMMENT.sub(lambda found: "" if is_annotations(found.group(1)) else found.group(), text)
         lines = re.sub(r"[^\S\n]", " ", text).split("\n")
         rest = [line[min(indent, len(line) - len(line.lstrip())) :].rstrip() for line in lines[1:]]

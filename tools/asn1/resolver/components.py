@@ -2,15 +2,16 @@
 
 from __future__ import annotations
 
+from collections.abc import Callable
 from dataclasses import replace
 
 from ..errors import AsnError, Place
 from ..model import Field, Presence, Resolved
 from ..notes import Notes
 from ..scope import Env, check_names
-from ..spelling import camel, field, variant
-from ..syntax import ChoiceType, Component, ComponentsOf, FieldsType, TagDefault
-from ..tagging import alternatives, are_tagged, automatic, check_all, check_sequence, in_order_of_tags
+from ..spelling import camel, field, numbered, variant
+from ..syntax import ChoiceType, Component, ComponentsOf, FieldsType
+from ..tagging import alternatives, automatic, check_all, check_sequence, has_automatic_tags, in_order_of_tags
 from . import types
 from .classes import base_of
 from .context import Context
@@ -27,8 +28,9 @@ def fields_of(context: Context, type_: FieldsType) -> tuple[tuple[Field, ...], t
     """The fields, distinguished by their tags: in the order of their encodings, and as they are written."""
     placed = components_of(context, type_)
     check_names([(part.place, part.name) for part, _ in placed], "name")
+    names = spelled(context, [part for part, _ in placed], field)
     placed = [one for one in placed if not may_be_absent(one[0]) or not is_left_out(context.within(one[1]), one[0])]
-    fields = tuple(one_field(context.within(env), part, field(part.name)) for part, env in placed)
+    fields = tuple(one_field(context.within(env), part, names[part.name]) for part, env in placed)
     check_fields(fields)
     if not type_.is_set:
         check_sequence(fields)
@@ -41,11 +43,22 @@ def alternatives_of(context: Context, type_: ChoiceType) -> tuple[Field, ...]:
     """The alternatives, distinguished by their tags."""
     parts = alternatives(context.env, type_)
     check_names([(part.place, part.name) for part in parts], "name")
+    names = spelled(context, parts, variant)
     parts = kept_alternatives(context, type_, parts)
-    fields = tuple(one_field(context, part, variant(part.name)) for part in parts)
+    fields = tuple(one_field(context, part, names[part.name]) for part in parts)
     check_fields(fields)
     check_all(fields, "X.680 29.3")
     return fields
+
+
+def spelled(context: Context, parts: list[Component], spell: Callable[[str], str]) -> dict[str, str]:
+    """The names of components in Rattle: of those that are spelled alike, each but the first has a number."""
+    names = dict(zip((part.name for part in parts), numbered([spell(part.name) for part in parts])))
+    for part in parts:
+        if names[part.name] != spell(part.name) and not Notes(part.annotations).has("name"):
+            said = f"'{part.name}' is '{names[part.name]}', as another is '{spell(part.name)}'"
+            context.say(part.place, said, f"{said}.")
+    return names
 
 
 def may_be_absent(part: Component) -> bool:
@@ -57,7 +70,7 @@ def components_of(context: Context, type_: FieldsType, by: tuple[FieldsType, ...
     """The components with those of COMPONENTS OF in their place, and automatic tags (25.5, 25.7); `by` are the types that take
     this one's."""
     own = [part for part in type_.components if isinstance(part, Component)]
-    is_automatic = context.env.scope.module.tag_default is TagDefault.AUTOMATIC and not are_tagged(own)
+    is_automatic = has_automatic_tags(context.env, own)
     placed: list[Placed] = []
     for part in type_.components:
         if isinstance(part, Component):
@@ -84,8 +97,9 @@ def included(context: Context, part: ComponentsOf, by: tuple[FieldsType, ...]) -
 def one_field(context: Context, part: Component, rust: str) -> Field:
     """One field or alternative."""
     notes = Notes(part.annotations)
+    number = rust.removeprefix(field(part.name)).removeprefix(variant(part.name))
     rust = notes.argument("name") or rust
-    inner = replace(context, inner=context.inner + camel(part.name), notes=notes, checks=part.default is None)
+    inner = replace(context, inner=context.inner + camel(part.name) + number, notes=notes, checks=part.default is None)
     found = type_of(inner, part)
     if part.is_later:
         remark_on_addition(inner, part)

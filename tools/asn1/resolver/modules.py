@@ -9,7 +9,7 @@ from ..errors import AsnError, Place, Remark
 from ..model import Constant, Definition, ResolvedModule
 from ..notes import Notes
 from ..scope import Env, Library, Scope
-from ..spelling import screaming
+from ..spelling import numbered, screaming
 from ..syntax import Module, Simple, SimpleType, TypeAssignment, ValueAssignment
 from ..values import arcs_of
 from .classes import base_of, class_of
@@ -72,12 +72,9 @@ def resolved(state: State, module: Module) -> ResolvedModule:
     mine = [found for (name, _), found in state.definitions.items() if name == module.name]
     definitions: list[Definition] = sorted(mine, key=lambda found: found.place)
     scope = state.library.scopes[module.name]
-    constants = [
-        constant(state, scope, assignment)
-        for assignment in module.assignments
-        if isinstance(assignment, ValueAssignment) and is_identifier(state, scope, assignment)
-    ]
-    check_constants(module, constants)
+    values = [one for one in module.assignments if isinstance(one, ValueAssignment) and is_identifier(state, scope, one)]
+    names = numbered([screaming(one.name) for one in values])
+    constants = [constant(state, scope, one, name) for one, name in zip(values, names)]
     return ResolvedModule(module.name, module.file, definitions, constants, state.library)
 
 
@@ -90,16 +87,9 @@ def is_identifier(state: State, scope: Scope, assignment: ValueAssignment) -> bo
     return isinstance(base, SimpleType) and base.simple is Simple.OBJECT_IDENTIFIER
 
 
-def constant(state: State, scope: Scope, assignment: ValueAssignment) -> Constant:
+def constant(state: State, scope: Scope, assignment: ValueAssignment, rust: str) -> Constant:
+    if rust != screaming(assignment.name):
+        said = f"'{assignment.name}' is '{rust}', as another is '{screaming(assignment.name)}'"
+        state.remarks.append(Remark(assignment.place, said))
     arcs = arcs_of(state.library, Env(scope), assignment.value)
-    return Constant(assignment.name, screaming(assignment.name), arcs, assignment.text)
-
-
-def check_constants(module: Module, constants: list[Constant]) -> None:
-    """Values whose names differ in ASN.1 have to differ in Rattle too."""
-    seen: dict[str, str] = {}
-    for one in constants:
-        if one.rust in seen:
-            place = next(part.place for part in module.assignments if part.name == one.name)
-            raise AsnError(place, f"'{one.name}' and '{seen[one.rust]}' are both '{one.rust}'", "rename one of them")
-        seen[one.rust] = one.name
+    return Constant(assignment.name, rust, arcs, assignment.text)

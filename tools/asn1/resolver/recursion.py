@@ -6,13 +6,15 @@ What is cut is kept as contents octets behind its tag, and not read. So it has o
 from __future__ import annotations
 
 from collections.abc import Iterator
-from dataclasses import dataclass, fields, is_dataclass
+from dataclasses import dataclass
 from typing import Union
 
 from ..errors import AsnError, Place
 from ..scope import Env, Library, Scope
 from ..syntax import (
+    ChoiceType,
     Component,
+    ComponentsOf,
     ConstrainedType,
     FieldOfClass,
     FieldsType,
@@ -23,12 +25,14 @@ from ..syntax import (
     Type,
     TypeAssignment,
 )
+from ..tagging import has_automatic_tags
 from .classes import MOST_STEPS, follow, meant
 from .cycles import Graph, groups_of
 
 Key = tuple[str, str]
 Found = tuple[Scope, TypeAssignment]
 Within = Union[Component, ReferenceType]
+Around = tuple[Within, bool]  # with whether it gets an automatic tag
 
 
 @dataclass(frozen=True)
@@ -94,50 +98,51 @@ def ways_from(library: Library, start: Found) -> list[Way]:
         library.searched.add(order_of(found))
         for within, name, other in names_of(library, found):
             waiting.append(other)
-            can_be_cut = within is not None and is_kept_behind_a_tag(library, Env(found[0]), type_of(within))
-            place = name.place if within is None else within.place
             keys = [(scope.module.name, assignment.name) for scope, assignment in (found, other)]
-            ways.append((order_of(found), Way(keys[0], keys[1], place, can_be_cut, order_of(other) <= order_of(found))))
+            place = within.place if within else name.place
+            way = Way(keys[0], keys[1], place, within is not None, order_of(other) <= order_of(found))
+            ways.append((order_of(found), way))
     return [way for _, way in sorted(ways, key=lambda one: (one[0], one[1].place))]
 
 
 def names_of(library: Library, found: Found) -> Iterator[tuple[Within | None, ReferenceType, Found]]:
-    """The names of types in an assignment, each with what it stands for; those of parameters stand for none."""
+    """The names of types in an assignment, each with the innermost component or item around it that can be cut, and with what
+    it stands for; those of parameters stand for none."""
     scope, assignment = found
     parameters = [parameter.name for parameter in assignment.parameters]
-    for within, name in names_in(assignment.type, None):
+    for around, name in names_in(Env(scope), assignment.type, ()):
         other = None if name.module is None and name.name in parameters else assigned(library, scope, name)
         if other is not None:
-            yield within, name, other
+            can_be_cut = (one for one, is_tagged in reversed(around) if is_tagged or is_kept_behind_a_tag(library, scope, one))
+            yield next(can_be_cut, None), name, other
 
 
-def type_of(within: Within) -> Type:
-    return within.type if isinstance(within, Component) else within
-
-
-def names_in(tree: object, within: Within | None) -> Iterator[tuple[Within | None, ReferenceType]]:
-    """The names of types in a type, each with the component or the item that it is of; what is not read is passed over."""
-    if isinstance(tree, Component):
-        if any(note.name == "unread" for note in tree.annotations):
-            return
-        yield from names_in(tree.type, tree)
-    elif isinstance(tree, ConstrainedType):
-        yield from names_in(tree.type, within)
+def names_in(env: Env, tree: object, around: tuple[Around, ...]) -> Iterator[tuple[tuple[Around, ...], ReferenceType]]:
+    """The names of types in a type, each with the components or the item around it; what is not read is passed over."""
+    if isinstance(tree, (FieldsType, ChoiceType)):
+        parts = tree.components if isinstance(tree, FieldsType) else tree.alternatives
+        is_tagged = has_automatic_tags(env, [part for part in parts if isinstance(part, Component)])
+        for part in parts:
+            if isinstance(part, ComponentsOf):
+                yield from names_in(env, part.type, ())
+            elif not any(note.name == "unread" for note in part.annotations):
+                yield from names_in(env, part.type, (*around, (part, is_tagged)))
+    elif isinstance(tree, (ConstrainedType, TaggedType, SelectionType)):
+        yield from names_in(env, tree.type, around)
     elif isinstance(tree, ListType):
-        is_item = within is None and isinstance(tree.item, ReferenceType)
-        yield from names_in(tree.item, tree.item if is_item else within)
-    elif isinstance(tree, (tuple, list)):
-        for part in tree:
-            yield from names_in(part, within)
-    elif is_dataclass(tree) and not isinstance(tree, Place):
-        if isinstance(tree, ReferenceType):
-            yield within, tree
-        for one in fields(tree):
-            yield from names_in(getattr(tree, one.name), within)
+        item = ((tree.item, False),) if isinstance(tree.item, ReferenceType) else ()
+        yield from names_in(env, tree.item, around or item)
+    elif isinstance(tree, ReferenceType):
+        yield around, tree
+        for actual in tree.actuals:
+            yield from names_in(env, actual.type, around)
 
 
 def assigned(library: Library, scope: Scope, name: ReferenceType) -> tuple[Scope, TypeAssignment] | None:
-    """The assignment of a name, if it is a type's."""
+    """The assignment of a name, if it is a type's of a module that is given."""
+    sources = (name.module,) if name.module is not None else scope.imported.get(name.name, (scope.module.name,))
+    if not all(source in library.scopes for source in sources):
+        return None
     try:
         return library.find_type(Env(scope), name.name, name.place, name.module)
     except AsnError:
@@ -147,10 +152,11 @@ def assigned(library: Library, scope: Scope, name: ReferenceType) -> tuple[Scope
 # ---- tags
 
 
-def is_kept_behind_a_tag(library: Library, env: Env, type_: Type) -> bool:
-    """Whether a type that reaches another has one tag, so that its contents octets can be kept behind it."""
+def is_kept_behind_a_tag(library: Library, scope: Scope, within: Within) -> bool:
+    """Whether what reaches another type has one tag, so that its contents octets can be kept behind it."""
+    type_ = within.type if isinstance(within, Component) else within
     try:
-        base = first_tagged(library, env, type_)[1]
+        base = first_tagged(library, Env(scope), type_)[1]
     except AsnError:
         return False
     return isinstance(base, TaggedType) or (isinstance(base, (FieldsType, ListType)) and not base.is_set)

@@ -30,6 +30,7 @@ from ..values import number_of
 from . import definitions, leaves
 from .classes import base_of, bind, has_type_parameter, is_parameter, is_untagged_choice, meant
 from .context import Context
+from .lacking import kept, replaced
 from .recursion import cut_at, first_tagged
 from .subsets import narrowed_name
 
@@ -84,6 +85,9 @@ def written_out(context: Context, type_: Type, constraints: Constraints) -> Defi
 def tagged(context: Context, type_: TaggedType, constraints: Constraints) -> Tagged:
     """A tag before a type."""
     tag, is_explicit = tag_of(context, type_)
+    lacks = None if is_explicit else replaced(context.state.library, context.env, type_.type)
+    if lacks is not None:
+        return Tagged(tag, is_explicit, kept(context, type_.place, lacks))
     inner = resolve_type(context, type_.type if is_explicit else with_no_tag(type_.type), constraints)
     if not is_explicit and isinstance(inner, Leaf) and inner.whole is Whole.ANY:
         raise AsnError(

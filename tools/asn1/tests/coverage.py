@@ -18,7 +18,7 @@ sys.path.insert(0, str(Path(__file__).resolve().parents[2]))
 
 from asn1.command import MOST_CALLS  # noqa: E402
 from asn1.errors import AsnError  # noqa: E402
-from asn1.reading import text_of  # noqa: E402
+from asn1.reading import text_of_file  # noqa: E402
 from asn1.resolver.context import State  # noqa: E402
 from asn1.resolver.modules import define_type, is_written, resolved  # noqa: E402
 from asn1.scope import Library, Scope, imported_by, scope_of  # noqa: E402
@@ -69,16 +69,7 @@ def source_of(folder: Path) -> Source:
 
 def readings_of_file(path: Path) -> list[Reading]:
     """The modules of a file, which may be none."""
-    octets, errors = path.read_bytes(), []
-    try:
-        text = text_of(str(path), octets)
-    except AsnError as error:
-        errors.append(error)
-        text = octets.decode("latin-1").replace("\r\n", "\n").replace("\r", "\n")
-    found = readings_of(str(path), text)
-    for reading in found:
-        reading.errors += errors
-    return found
+    return readings_of(str(path), text_of_file(path))
 
 
 def library_of(sources: list[Source], source: Source, folder: Path) -> Library:

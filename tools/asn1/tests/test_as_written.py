@@ -116,6 +116,12 @@ class Grammars(unittest.TestCase):
             found = grammar_of(written(module_of("S ::= SET { a [1] NULL, b BOOLEAN }")), "s")
         self.assertEqual(found, "SET (field BOOLEAN (field (EXPLICIT context 1 NULL) end))")
 
+    def test_a_choice_in_a_set_stands_where_all_of_its_tags_do(self) -> None:
+        body = "A ::= SET { a CHOICE { b NULL, c INTEGER }, d BOOLEAN, e [0] NULL }"
+        files = written(module_of(body))
+        self.assertEqual(names_in_page(files, "A"), ["d", "a", "e"])
+        self.assertEqual(names_in_octets(files, "a"), ["d", "a", "e"])
+
     def test_alternatives_stand_in_the_order_of_the_text(self) -> None:
         with with_alternatives(lambda parts: (parts[1], parts[0], parts[2])):
             found = grammar_of(written(module_of("C ::= CHOICE { a NULL, b BOOLEAN, c UTF8String }")), "c")

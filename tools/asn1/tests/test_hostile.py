@@ -21,7 +21,8 @@ FILES = [
     (b"\x00", "1:1", "the character '\\x00' is none of ASN.1's"),
     (b"A DEFINITIONS ::= BEGIN a\x00 END", "1:26", "the character '\\x00' is none of ASN.1's"),
     (b"\xff\xfeA\x00", "1:1", "the octet FF is no UTF-8 here"),
-    (b"A DEFINITIONS ::= BEGIN -- \xe9", "1:28", "the octet E9 is no UTF-8 here"),
+    (b"A DEFINITIONS ::= BEGIN -- \xe9\n\xe9", "2:1", "the octet E9 is no UTF-8 here"),
+    (b'A DEFINITIONS ::= BEGIN a IA5String ::= "\xe9" END', "1:41", "the octet E9 is no UTF-8 here"),
     ("Ä DEFINITIONS ::= BEGIN END".encode(), "1:1", "the character 'Ä' is none of ASN.1's"),
     ("A DEFINITIONS ::= BEGIN Bж ::= NULL END".encode(), "1:26", "the character 'ж' is none of ASN.1's"),
     (b"END", "1:1", "'END' stands where the name of a module is expected"),
@@ -82,7 +83,7 @@ class Hostile(unittest.TestCase):
     def test_files(self) -> None:
         for octets, place, said in FILES:
             with self.subTest(octets[:50]), self.assertRaises(AsnError) as caught:
-                resolve(parse_modules("a.asn1", text_of("a.asn1", octets)))
+                resolve(parse_modules("a.asn1", text_of(octets)))
             self.assertIn(said, caught.exception.problem, octets[:50])
             self.assertEqual(str(caught.exception.place), f"a.asn1:{place}", octets[:50])
             self.assertTrue(caught.exception.instead)

@@ -21,10 +21,22 @@ class Lacking(unittest.TestCase):
         self.assertIn("/// A value with 'universal' is refused: the layer has no UniversalString.", written(module_of(DIRECTORY_STRING))["src/test/d.rt"])
         self.assertNotIn("universal", grammar(DIRECTORY_STRING)["d"].split("abbrev")[-1].split("=", 1)[-1].lower())
 
-    def test_automatic_tags_count_what_is_left_out(self) -> None:
+    def test_what_has_an_implicit_tag_is_kept(self) -> None:
         page = written(module_of(DIRECTORY_STRING, "AUTOMATIC TAGS"))["specs/Test/Grammar.antt"]
+        self.assertIn("IMPLICIT context 2 OCTET_STRING", page)
         self.assertIn("IMPLICIT context 3 UTF8_STRING", page)
-        self.assertNotIn("context 2", page)
+        said = "the contents octets of this UniversalString are kept, and not checked"
+        self.assertEqual(remarks(DIRECTORY_STRING, "AUTOMATIC TAGS"), [f"2:66 {said}"])
+
+    def test_what_is_constructed_is_kept_so(self) -> None:
+        body = "A ::= SEQUENCE { a [0] IMPLICIT N, b [1] GraphicString }\nN ::= EXTERNAL"
+        page = written(module_of(body, "IMPLICIT TAGS"))["specs/Test/Grammar.antt"]
+        self.assertIn("(field (IMPLICIT context 0 UNREAD_SEQUENCE)", page)
+        self.assertIn("(field (IMPLICIT context 1 OCTET_STRING)", page)
+
+    def test_an_explicit_tag_changes_nothing(self) -> None:
+        error = refusal(module_of("A ::= SEQUENCE { a [0] IMPLICIT N }\nN ::= [1] EXPLICIT GraphicString"))
+        self.assertIn("there is no type for GraphicString", str(error))
 
     def test_a_component_that_may_be_absent_is_left_out(self) -> None:
         body = "A ::= SEQUENCE { a NULL, b GraphicString OPTIONAL, c [0] N OPTIONAL }\nN ::= ObjectDescriptor"

@@ -41,7 +41,33 @@ class Fields(unittest.TestCase):
         self.assertIn("pub fn result(&self) -> Null", source)
 
 
+    def test_of_names_that_are_spelled_alike_each_but_the_first_has_a_number(self) -> None:
+        body = "A ::= SEQUENCE { ab-c NULL, abC SEQUENCE { x NULL }, aBC NULL, ab-c2 NULL }"
+        files = written(module_of(body))
+        self.assertEqual(re.findall(r"pub fn (\w+)\(&self\)", files["src/test/a.rt"]), ["ab_c", "ab_c3", "abc", "ab_c2"])
+        self.assertEqual(re.findall(r"\(a_fields\.(\w+) v\)", files["src/test/a.rt"]), ["ab_c", "ab_c3", "abc", "ab_c2"])
+        self.assertIn("src/test/a_ab_c3.rt", files)
+        self.assertIn("2:29 'abC' is 'ab_c3', as another is 'ab_c'", remarks(body))
+
+    def test_names_that_are_given_are_not_numbered(self) -> None:
+        self.assertEqual(remarks("A ::= SEQUENCE { ab-c NULL, abC NULL -- @name(other)\n}"), [])
+
+
+class Constants(unittest.TestCase):
+    def test_of_names_that_are_spelled_alike_each_but_the_first_has_a_number(self) -> None:
+        body = "ab-c OBJECT IDENTIFIER ::= { 1 2 }\nabC OBJECT IDENTIFIER ::= { 1 3 }"
+        constants = written(module_of(body))["src/test/constants.rt"]
+        self.assertEqual(re.findall(r"pub const (\w+):", constants), ["AB_C", "AB_C_2"])
+        self.assertEqual(remarks(body), ["3:1 'abC' is 'AB_C_2', as another is 'AB_C'"])
+
+
 class Variants(unittest.TestCase):
+    def test_of_names_that_are_spelled_alike_each_but_the_first_has_a_number(self) -> None:
+        body = "A ::= CHOICE { ab-c NULL, abC SEQUENCE { x NULL } }"
+        source = written(module_of(body))["src/test/a.rt"]
+        self.assertIn("    AbC(Null),\n", source)
+        self.assertIn("    AbC2(AAbC2),\n", source)
+
     def test_self_and_type_get_an_underscore(self) -> None:
         self.assertEqual([variant("self"), variant("type"), variant("selfSigned")], ["Self_", "Type_", "SelfSigned"])
         source = written(module_of("A ::= CHOICE { self NULL, type BOOLEAN }"))["src/test/a.rt"]

@@ -15,17 +15,23 @@ from .test_writer import written
 
 class Octets(unittest.TestCase):
     def test_a_byte_order_mark_is_skipped(self) -> None:
-        self.assertEqual(text_of("a.asn1", b"\xef\xbb\xbfA ::= NULL"), "A ::= NULL")
+        self.assertEqual(text_of(b"\xef\xbb\xbfA ::= NULL"), "A ::= NULL")
 
     def test_ends_of_lines_are_alike(self) -> None:
-        self.assertEqual(text_of("a.asn1", b"a\r\nb\rc\nd"), "a\nb\nc\nd")
+        self.assertEqual(text_of(b"a\r\nb\rc\nd"), "a\nb\nc\nd")
 
     def test_what_is_no_utf_8_has_a_place(self) -> None:
-        for octets, place in ((b"A ::= NULL -- Universit\xe9", "1:24"), ("a\r\n\u00e9 ".encode() + b"\xff\xfe", "2:3")):
+        for octets, place in ((b"A ::= \xe9NULL", "1:7"), ("/*\r\n\u00e9*/ ".encode() + b"\xff\xfe", "2:5")):
             with self.assertRaises(AsnError) as caught:
-                text_of("a.asn1", octets)
+                tokens_of("a.asn1", text_of(octets))
             self.assertEqual(str(caught.exception.place), f"a.asn1:{place}")
             self.assertIn("is no UTF-8 here", caught.exception.problem)
+
+    def test_a_comment_may_have_other_octets(self) -> None:
+        text = text_of(b"Test DEFINITIONS ::= BEGIN\nA ::= SEQUENCE { -- Universit\xe9\n a NULL }\nEND\n")
+        source = written(text)["src/test/a.rt"]
+        self.assertIn("-- Universit\ufffd", source)
+        source.encode("utf-8")
 
 
 class Tabs(unittest.TestCase):

@@ -55,6 +55,15 @@ class Recursion(unittest.TestCase):
         self.assertEqual(found["A"].alternatives[0].type, KEPT)
         self.assertNotEqual(found["B"].fields[0].type, KEPT)
 
+    def test_an_automatic_tag_is_one(self) -> None:
+        found = definitions("A ::= CHOICE { a A, b NULL }\nB ::= SET { b B OPTIONAL }", "AUTOMATIC TAGS")
+        self.assertEqual(found["A"].alternatives[0].type, behind(0))
+        self.assertEqual(found["B"].fields[0].type, behind(0))
+
+    def test_what_stands_around_is_cut_where_the_innermost_has_no_tag(self) -> None:
+        found = definitions("A ::= CHOICE { a [0] NULL, b SEQUENCE { c NULL, d A } }")
+        self.assertEqual(found["A"].alternatives[1].type, KEPT)
+
     def test_items_are_kept(self) -> None:
         found = definitions("A ::= SEQUENCE OF A\nB ::= [APPLICATION 3] SET OF B", "EXPLICIT TAGS")
         self.assertEqual(found["A"].item, KEPT)
