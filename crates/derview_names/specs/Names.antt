@@ -1,7 +1,7 @@
 -- The types by their names: what octets come to as each, and when reading it takes memory.
 use Rattle.std.specs.Prelude.{ℕ, true, None, Some, if◌then◌else◌, codes}
 use Rattle.std.specs.Str.{bytes_eq}
-use Rattle.der_asn1_types.specs.Tag.TheVariants.{Boolean, Integer, Null, OctetString, ObjectIdentifier, Sequence, Set, BitString, Utf8String, GeneralString, BmpString, UtcTime, GeneralizedTime}
+use Rattle.der_asn1_types.specs.Tag.TheVariants.{Boolean, Integer, Null, OctetString, ObjectIdentifier, Sequence, Set, BitString, Utf8String, GeneralString, BmpString, UtcTime, GeneralizedTime, NumericString, VisibleString, RelativeOid}
 use Rattle.der_asn1_types.specs.Identifier.{same_identifier}
 use Rattle.der_asn1_types.specs.Items.{parse_items}
 use Rattle.der_asn1_types.specs.Arrays.{parse_array}
@@ -26,6 +26,8 @@ use Rattle.der_asn1_types.specs.BorrowedSets.{parse_borrowed}
 use Rattle.der_asn1_types.specs.TimeReading.{parse_generalized, parse_utc}
 use Rattle.der_asn1_types.specs.TaggedValues.{parse_explicit}
 use Rattle.der_asn1_types.specs.FieldLists.{parse_field, parse_end}
+use Rattle.der_simple.specs.Arcs.{parse_arcs}
+use Rattle.der_simple.specs.Characters.{parse_simple_string}
 use Rattle.der_lines.specs.Rows.{Row, Taking, never, at_last, between, parsed, tagged}
 use Rattle.der_lines.specs.Tables.{Table, or_else}
 
@@ -157,6 +159,14 @@ borrowed_set_types name =
     else if bytes_eq name (codes "setref-setvec-u16") then Some (tagged between Set (parse_borrowed (parse_tagged Set (parse_set parse_u16))))
     else None
 
+-- the strings NumericString and VisibleString, and RELATIVE-OID
+unfoldable pub simple_types : Table
+simple_types name =
+    if bytes_eq name (codes "numericref") then Some (tagged never NumericString (parse_simple_string 18))
+    else if bytes_eq name (codes "visibleref") then Some (tagged never VisibleString (parse_simple_string 26))
+    else if bytes_eq name (codes "relativeoidref") then Some (tagged never RelativeOid parse_arcs)
+    else None
+
 -- dates and times
 unfoldable pub time_types : Table
 time_types name =
@@ -167,4 +177,4 @@ time_types name =
 
 -- the row of the type with a name
 unfoldable pub type_of : Table
-type_of name = or_else (plain_types name) (or_else (signed_types name) (or_else (unsigned_types name) (or_else (opaque_types name) (or_else (composed_types name) (or_else (tagged_types name) (or_else (number_types name) (or_else (string_types name) (or_else (bit_types name) (or_else (nested_types name) (or_else (set_types name) (or_else (borrowed_set_types name) (time_types name))))))))))))
+type_of name = or_else (plain_types name) (or_else (signed_types name) (or_else (unsigned_types name) (or_else (opaque_types name) (or_else (composed_types name) (or_else (tagged_types name) (or_else (number_types name) (or_else (string_types name) (or_else (bit_types name) (or_else (nested_types name) (or_else (set_types name) (or_else (borrowed_set_types name) (or_else (simple_types name) (time_types name)))))))))))))

@@ -5,7 +5,7 @@ ghost use Rattle.der_asn1_types.specs.Tag.TheVariants.{Set};
 ghost use Rattle.der_lines.specs.Puts.{Puts};
 ghost use Rattle.der_lines.specs.Rows.{tagged, taking};
 ghost use Rattle.der_lines.specs.Tables.{AnswersAs};
-ghost use Rattle.derview_names.specs.Names.{type_of, plain_types, signed_types, unsigned_types, opaque_types, composed_types, tagged_types, number_types, string_types, bit_types, nested_types, set_types, borrowed_set_types, time_types};
+ghost use Rattle.derview_names.specs.Names.{type_of, plain_types, signed_types, unsigned_types, opaque_types, composed_types, tagged_types, number_types, string_types, bit_types, nested_types, set_types, borrowed_set_types, simple_types, time_types};
 
 use der_asn1_types::asn1::{
     Any, AnyRef, Application, BitString, BitStringRef, BmpString, ContextSpecific,
@@ -17,9 +17,10 @@ use der_asn1_types::asn1::{
 use der_asn1_types::{DateTime, Decode, DerOrd, Encode, Error, SliceReader, Tagged};
 use der_lines::{KeptWriter, Names, choose, is_name, put_canonical, put_canonical_set};
 use der_pkix::AlgorithmIdentifier;
+use der_simple::{NumericStringRef, RelativeOidRef, VisibleStringRef};
 use std::alloc::Global;
 
-/// The names of the types of `der_asn1_types`, and of an AlgorithmIdentifier.
+/// The names of the types of `der_asn1_types` and `der_simple`, and of an AlgorithmIdentifier.
 pub struct TypeNames;
 
 impl Names for TypeNames {
@@ -66,6 +67,9 @@ impl Names for TypeNames {
             return Some(result);
         }
         if let Some(result) = put_borrowed_set(alloc, name, octets, encoding) {
+            return Some(result);
+        }
+        if let Some(result) = put_simple(alloc, name, octets, encoding) {
             return Some(result);
         }
         put_time(alloc, name, octets, encoding)
@@ -318,6 +322,23 @@ fn put_canonical_borrowed<'a, T: Decode<'a, SliceReader<'a>> + Encode + DerOrd +
         encoding.new.octets.items result }
 {
     put_canonical::<SetOfRef<T>>(alloc, octets, encoding)
+}
+
+#[tactic(auto, unfolding(crate::specs::Names::simple_types))]
+fn put_simple(
+    alloc: Global,
+    name: &[u8],
+    octets: &[u8],
+    encoding: &mut KeptWriter,
+) -> Option<Result<(), Error>>
+    ensures { AnswersAs (simple_types name.now) octets.now encoding.new.octets.items result }
+{
+    choose! {
+        alloc, name, octets, encoding;
+        "numericref" => NumericStringRef,
+        "visibleref" => VisibleStringRef,
+        "relativeoidref" => RelativeOidRef,
+    }
 }
 
 #[tactic(auto, unfolding(crate::specs::Names::time_types))]
