@@ -3,8 +3,9 @@
 
     python3 tests/dearest.py FOLDER..
 
-Told to end (SIGTERM), it prints the ten dearest, each with its seconds of proof, of tests and of edits, and their sum. Of a
-process that ends between two looks the last seconds are not counted."""
+On SIGTERM it prints the sum, the ten dearest crates, each with its seconds of proof, of tests and of mutants, and the chain of
+crates, each of which stands on the one before, that takes the most seconds of proof: however many processors there are, the
+proofs take no less. The last second or so of a process is not counted."""
 import os
 import re
 import signal
@@ -59,6 +60,31 @@ def told(seen):
         yield f"  {name}: {sum(parts.values()):.0f} (" + ", ".join(f"{what} {parts[what]:.0f}" for what in sorted(parts)) + ")"
 
 
+def longest_chain(lines, seconds):
+    """The chain of crates that takes the most seconds, by the lines of crates.txt."""
+    below = {name.split()[0]: rest.split() for name, _, rest in (line.partition(":") for line in lines if ":" in line)}
+    chains = {}
+
+    def chain_to(name):
+        if name not in chains:
+            chains[name] = max((chain_to(it) for it in below[name] if it in below), key=lambda it: it[0], default=(0, []))
+            chains[name] = chains[name][0] + seconds.get(name, 0), [*chains[name][1], name]
+        return chains[name]
+
+    return max((chain_to(name) for name in below), key=lambda it: it[0], default=(0, []))
+
+
+def chain_told(folder, seen):
+    """The line that tells the longest chain of the crates of a folder."""
+    seconds = {}
+    for (_, (name, what)), some in seen.items():
+        if what == "proof":
+            seconds[name] = seconds.get(name, 0) + some
+    with open(os.path.join(folder, "crates.txt"), encoding="utf-8") as it:
+        total, chain = longest_chain(it.read().splitlines(), seconds)
+    return f"the longest chain: {total / 60:.0f} processor minutes ({' '.join(chain)})"
+
+
 def main(folders):
     seen, ends = {}, []
     signal.signal(signal.SIGTERM, lambda *_: ends.append(True))
@@ -66,7 +92,7 @@ def main(folders):
     while not ends:
         look(folders, seen)
         time.sleep(LOOK)
-    print("\n".join(told(seen)), flush=True)
+    print("\n".join([*told(seen), *(chain_told(it, seen) for it in folders)]), flush=True)
 
 
 if __name__ == "__main__":

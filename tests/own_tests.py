@@ -1,6 +1,6 @@
 #!/usr/bin/env python3
-"""Tests of what tests/edits.py and tests/proved_tests.py do beside the prover: lots, the record, and what of a run stays that is
-cut off.
+"""Tests of what tests/edits.py, tests/proved_tests.py and tests/dearest.py do beside the prover: lots, the record, what stays of a
+run that is cut off, and the longest chain.
 
     python3 tests/own_tests.py"""
 import os
@@ -9,6 +9,7 @@ import tempfile
 import types
 import unittest
 
+import dearest
 import edits
 from edit_checks import Answer
 from edit_texts import Edit
@@ -228,6 +229,18 @@ class Trials(unittest.TestCase):
         trial = self.trial(edit)
         self.assertEqual(trial.left, [])
         self.assertIn("comments alone", trial.faults[0][1])
+
+
+class Chains(unittest.TestCase):
+    LINES = ["one:", "two: one", "three staticlib: one two other", "four: one"]
+
+    def test_the_longest_chain_is_that_of_the_most_seconds(self):
+        seconds = {"one": 60, "two": 30, "three": 5, "four": 20}
+        self.assertEqual(dearest.longest_chain(self.LINES, seconds), (95, ["one", "two", "three"]))
+        self.assertEqual(dearest.longest_chain(self.LINES, {**seconds, "four": 40}), (100, ["one", "four"]))
+
+    def test_no_crate_has_no_chain(self):
+        self.assertEqual(dearest.longest_chain([], {}), (0, []))
 
 
 if __name__ == "__main__":
