@@ -6,7 +6,7 @@ import argparse
 import sys
 from pathlib import Path
 
-from .crates import entries_of, parts_of, places_of
+from .crates import entries_of, lists_of, parts_of, places_of
 from .errors import AsnError
 from .files import read
 from .folders import check, put
@@ -14,6 +14,7 @@ from .layout import LayoutError, laid_out
 from .resolver import resolve
 from .standing import lines_to_write
 from .writer.crate import files_of_crate, marked
+from .writer.field_lists import write_field_lists
 from .writer.holders import hold_tagged
 from .writer.parts import write_parts
 from .writer.places import write_places
@@ -77,6 +78,8 @@ def write_all(path: Path, with_remarks: bool) -> dict[str, str]:
         theirs = [module for module, entry in zip(resolved, entries) if entry.crate in others and entry.module]
         for name, text in write_parts(plan, theirs).items():
             found[f"{crate}/{name}"] = text
+    for crate in lists_of(path):
+        found |= {f"{crate}/{name}": text for name, text in write_field_lists().items()}
     return laid_out(found)
 
 

@@ -1,6 +1,7 @@
 """The list of what is written where: a line a crate, as `der_ocsp: ocsp=OCSP.asn1`; as `der_pkix given: name=name.asn1` of one
-that is there, and is read alone; as `der_places places: der_ocsp` of one that has where the fields of others' types stand; and
-as `certview_text parts: der_ocsp` of one that has what their octets are made of."""
+that is there, and is read alone; as `der_places places: der_ocsp` of one that has where the fields of others' types stand; as
+`certview_text parts: der_ocsp` of one that has what their octets are made of; and as `der_fields lists:` of the one that has
+the lists of one to eight fields."""
 
 from __future__ import annotations
 
@@ -11,6 +12,7 @@ from pathlib import Path
 from .errors import AsnError, Place
 
 LINE = re.compile(r"([a-z][a-z0-9_]*)(\s+given)?:((?:\s+(?:[a-z][a-z0-9_]*=)?[^\s=]+)+)\s*")
+OF_LISTS = re.compile(r"([a-z][a-z0-9_]*)\s+lists:")
 OF_OTHERS = re.compile(r"([a-z][a-z0-9_]*)\s+(places|parts):((?:\s+[a-z][a-z0-9_]*)+)")
 
 
@@ -44,6 +46,11 @@ def parts_of(path: Path) -> dict[str, list[str]]:
     return of_others(path, "parts")
 
 
+def lists_of(path: Path) -> list[str]:
+    """The crates that have the lists of fields."""
+    return [found.group(1) for _, text in lines_of(path) if (found := OF_LISTS.fullmatch(text))]
+
+
 def of_others(path: Path, word: str) -> dict[str, list[str]]:
     """The crates of the lines with this word, and the crates that each line names."""
     parsed = [OF_OTHERS.fullmatch(text) for _, text in lines_of(path)]
@@ -54,7 +61,7 @@ def entries_of(path: Path) -> list[Entry]:
     """The entries of a list; files are named from the folder that it stands in."""
     found: list[Entry] = []
     for number, text in lines_of(path):
-        if OF_OTHERS.fullmatch(text):
+        if OF_OTHERS.fullmatch(text) or OF_LISTS.fullmatch(text):
             continue
         parsed = LINE.fullmatch(text)
         if parsed is None:

@@ -69,6 +69,7 @@ class Lines(unittest.TestCase):
             "der_b: b=b=b.asn1",
             "der_b:",
             "der_b places:",
+            "der_b lists: der_a",
             "der_b owned places: der_a",
             "der_b given: ",
             "der_b given places: der_a",
