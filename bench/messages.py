@@ -1,6 +1,14 @@
 """Messages that are the same octets in each run: no key is made, and what stands as a signature is none."""
 
+import os
 import random
+import sys
+
+# (at the end: bench/ and tests/ have files of one name)
+sys.path.append(os.path.join(os.path.dirname(os.path.dirname(os.path.abspath(__file__))), "tests"))
+
+from lib import octets  # noqa: E402
+from lib.octets import sequence, tlv  # noqa: E402
 
 ALGORITHM = bytes.fromhex("300a06082a8648ce3d040302")
 SHA256 = bytes.fromhex("300d06096086480165030402010500")
@@ -10,27 +18,13 @@ POLICIES, POINTS, ALT_NAME, INFO = "551d20", "551d1f", "551d11", "2b060105050701
 CRL_NUMBER, REASON = "551d14", "551d15"
 
 
-def tlv(tag, *parts):
-    """The encoding of a tag of one octet and of these contents octets."""
-    contents = b"".join(parts)
-    count = len(contents)
-    if count < 128:
-        return bytes([tag, count]) + contents
-    octets = count.to_bytes((count.bit_length() + 7) // 8, "big")
-    return bytes([tag, 0x80 | len(octets)]) + octets + contents
-
-
-def sequence(*parts):
-    return tlv(0x30, *parts)
-
-
 def oid(digits):
     return tlv(6, bytes.fromhex(digits))
 
 
-def integer(octets):
+def integer(contents):
     """The INTEGER of these octets, the first of which keeps it positive and in its fewest octets."""
-    return tlv(2, bytes([octets[0] & 0x7F | 0x40]) + octets[1:])
+    return tlv(2, bytes([contents[0] & 0x7F | 0x40]), contents[1:])
 
 
 def utf8(text):
@@ -144,8 +138,7 @@ def integers(count):
     numbers = random.Random(count)
 
     def one():
-        octets = 1 + numbers.randrange(8)
-        value = numbers.randrange(1 << 8 * octets - 1) * numbers.choice([1, -1])
-        return tlv(2, value.to_bytes((value + (value < 0)).bit_length() // 8 + 1, "big", signed=True))
+        count_of_octets = 1 + numbers.randrange(8)
+        return octets.integer(numbers.randrange(1 << 8 * count_of_octets - 1) * numbers.choice([1, -1]))
 
     return sequence(*(one() for _ in range(count)))

@@ -17,7 +17,7 @@ import sys
 import tempfile
 import warnings
 
-from readme_lines import try_lines
+from lib.readme_lines import try_lines
 
 ROOT = os.path.dirname(os.path.dirname(os.path.abspath(__file__)))
 SYSTEM = "/etc/ssl/certs/ca-certificates.crt"

@@ -36,10 +36,10 @@ import threading
 import time
 from concurrent.futures import ThreadPoolExecutor
 
-from edit_checks import Builds, crates_of, kit_of_rt
-from edit_texts import Edit, group_of
-from kept_edits import PARTS, RULES, Kept, Record, Refusal, sum_of, sum_of_kit, sum_of_sources
-from lots import drawn, seed_of
+from lib.edit_checks import Builds, crates_of, kit_of_rt
+from lib.edit_texts import Edit, group_of
+from lib.kept_edits import PARTS, RULES, Kept, Record, Refusal, sum_of, sum_of_kit, sum_of_sources
+from lib.lots import drawn, seed_of
 
 ROOT = os.path.dirname(os.path.dirname(os.path.abspath(__file__)))
 # How many seconds the edits of a crate take for each of its bytes and of the crates that it stands on, where no run has told.

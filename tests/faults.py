@@ -22,9 +22,7 @@ import tempfile
 from concurrent.futures import ThreadPoolExecutor
 
 sys.dont_write_bytecode = True
-sys.path.insert(0, os.path.dirname(os.path.abspath(__file__)))
-import programs
-import values
+from lib import octets, programs, values
 
 JOBS = int(os.environ.get("JOBS") or min(4, os.cpu_count() or 1))
 wrong = []
@@ -88,8 +86,8 @@ def refusals(text, expected, seen):
 def refuse_calls(folder):
     """Refuses each request of the calls in turn."""
     program = f"{folder}/calls"
-    programs.build("calls", program, extra=f"{programs.HERE}/calls")
-    expected = read_expected(f"{programs.HERE}/calls/expected")
+    programs.build("calls", program, extra=f"{programs.TESTS}/calls")
+    expected = read_expected(f"{programs.TESTS}/calls/expected")
     seen, refused, number, quiet = set(), 0, 1, 0
 
     def refusing(number):
@@ -248,7 +246,7 @@ def end_in_each_way(program):
     ends("derview", run(program, line + b"none 00"), DONE, answer + b"bad line\n")
     many = 3500
     ends("derview with many lines", run(program, b"x\n" * many), DONE, b"bad line\n" * many)
-    long = values.Row("octets", values.tlv(4, bytes(1 << 20)))
+    long = values.Row("octets", octets.tlv(4, bytes(1 << 20)))
     ends("derview with a long line", run(program, long.line), DONE, long.answer)
     folder = os.open("/", os.O_RDONLY)
     ends("derview on a folder", run(program, None, input=None, stdin=folder), INPUT, b"")

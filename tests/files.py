@@ -2,13 +2,14 @@
 """Reads two thousand files by certview, and compares each field with what an independent reader finds in the octets, and with
 what openssl says of the file.
 
-    python3 tests/files.py [--built TREE] [--only STEM] [--keep FOLDER] [--spoilt]
+    python3 tests/files.py [--few] [--built TREE] [--only STEM] [--keep FOLDER] [--spoilt]
 
-openssl makes the files (`maker/`), of all kinds that certview shows; those of /etc/ssl/certs are among them. `reader/` takes
+openssl makes the files (`lib/maker/`), of all kinds that certview shows; those of /etc/ssl/certs are among them. `reader/` takes
 nothing from the crates: it reads the octets by the text of the standards, and says the place, the name and the value of each
 field. A document of certview is to have exactly these, and to be of its schema where python3 has the module jsonschema; text and
-document of a file have the same fields. `openssl_says/` compares with what openssl prints of the files. With --spoilt,
-files that are cut short, or of which one octet is changed, are read or refused as the reader says.
+document of a file have the same fields. `openssl_says/` compares with what openssl prints of the files. With --few these are
+one file or a few of each kind (`maker/few.py`) and no others; every run has them, but for one with --only. With --spoilt, files
+that are cut short, or of which one octet is changed, are read or refused as the reader says.
 
 TREE is a copy of the repository in which `rt ci` has built certview. Without it, or where the program is not there, certview is built
 by `rt try`, or is the program that CERTVIEW names. The last line counts files and fields. Where there is no openssl nothing is
@@ -28,16 +29,14 @@ import sys
 import tempfile
 
 sys.dont_write_bytecode = True
-sys.path.insert(0, os.path.dirname(os.path.abspath(__file__)))
-import documents
-import planted
-import programs
-from maker import everything, spoilt
-from maker.workshop import AT_ONCE, Workshop
-from openssl_says import said_by
-from reader import kinds, pem
-from reader.identifiers import IRREGULAR
-from reader.octets import Refused
+from lib import documents, planted, programs
+from lib.maker import everything, few, spoilt
+from lib.maker.workshop import AT_ONCE, Workshop
+from lib.openssl_says import few as said_of_few
+from lib.openssl_says import said_by
+from lib.reader import kinds, pem
+from lib.reader.identifiers import IRREGULAR
+from lib.reader.octets import Refused
 
 # Few enough that the program which `rt try` builds asks for memory less often than the request that it is refused.
 FILES_AT_ONCE = 20
@@ -45,7 +44,7 @@ TOLD = 30
 STORE = "/etc/ssl/certs"
 BLOCKS_AT_ONCE = 20
 END = "-----END CERTIFICATE-----"
-LEAST = 2000
+LEAST, LEAST_FEW = 2034, 34
 wrong = []
 counts = collections.Counter()
 fields = collections.Counter()
@@ -223,14 +222,14 @@ def try_wrong_documents(read):
 
 
 def compare_texts(program, read):
-    """The text of each tenth file has what its document has."""
+    """The text of a file has what its document has."""
     def ask(item):
         made, document = item
         ran = subprocess.run([program, made.path], capture_output=True, timeout=120)
         return made, document, documents.input_of(made.path, ran.stdout.decode(), ran.stderr.decode())
 
     with concurrent.futures.ThreadPoolExecutor(AT_ONCE) as pool:
-        for made, document, wanted in pool.map(ask, read[::10]):
+        for made, document, wanted in pool.map(ask, read):
             answers["text"] += 1
             if documents.as_told(document) != wanted:
                 fail(f"{os.path.basename(made.path)}: the document and the text differ: {document} and {wanted}")
@@ -299,14 +298,74 @@ def compare_store(program, folder):
             counts["certificate of the system"] += 1
 
 
-def main():
-    global validator
+def compare_few(program, folder):
+    """One file or a few of each kind, which are compared in all ways."""
+    os.makedirs(folder, exist_ok=True)
+    shop = Workshop(folder)
+    few.make(shop)
+    made = few.listed(shop, few.KINDS)
+    found = list(each_document(program, [it.path for it in made]))
+    read = [(it, document) for it, document in zip(made, found) if compare_made(it, document)]
+    compare_with_openssl([(it, document["messages"][0]) for it, document in read])
+    unread = few.listed(shop, few.UNREAD)
+    for it, document in zip(unread, each_document(program, [it.path for it in unread])):
+        counts[it.kind] += 1
+        if "refused" in document or len(document["messages"]) != 1 or is_malformed(document["messages"][0]):
+            fail(f"{os.path.basename(it.path)}: certview does not read it: {document}")
+        else:
+            read.append((it, document))
+    compare_texts(program, read)
+    compared = said_of_few.compare(folder, {os.path.basename(it.path): document["messages"][0] for it, document in read})
+    said["few"] += compared.count
+    for words in compared.wrong:
+        fail(f"beside openssl: {words}")
+
+
+def compare_many(program, shop, words):
+    """All files of the workshop, and those of the system."""
+    everything.make(shop)
+    made = [it for it in shop.made if os.path.basename(it.path).startswith(words.only)]
+    made = left_in(program, made)
+    read = []
+    for it, document in zip(made, each_document(program, [it.path for it in made])):
+        if compare_made(it, document):
+            read.append((it, document))
+    try_wrong_documents(read)
+    compare_with_openssl([(it, document["messages"][0]) for it, document in read if not it.unasked])
+    compare_texts(program, read[::10])
+    if words.spoilt:
+        compare_spoilt(program, shop)
+    if not words.only:
+        compare_store(program, shop.folder)
+
+
+def tell_counts(words):
+    """The last line."""
+    told = ", ".join(f"{count} {kind}" for kind, count in sorted(counts.items()))
+    least = LEAST_FEW if words.few else LEAST
+    if not words.only and sum(counts.values()) < least:
+        fail(f"there are {sum(counts.values())} files, and not {least}")
+    texts, faults = answers.pop("text", 0), answers.pop("planted", 0)
+    if words.spoilt:
+        told += "; of the spoilt ones " + ", ".join(f"{count} {answer}" for answer, count in sorted(answers.items()))
+    print(f"files: {sum(counts.values())} files ({told}); {sum(fields.values())} fields compared, "
+          f"{sum(said.values())} beside what openssl says, {texts} texts beside their documents; "
+          f"{faults} wrong documents found; {len(wrong)} wrong")
+
+
+def words_of_run():
     words = argparse.ArgumentParser()
     words.add_argument("--built", help="a tree in which certview is built", default="")
+    words.add_argument("--few", action="store_true", help="one file or a few of each kind, and no others")
     words.add_argument("--only", help="the stem of the files that are compared", default="")
     words.add_argument("--keep", help="a folder in which the files stay")
     words.add_argument("--spoilt", action="store_true", help="spoilt files too, whose octets are others in each run, as the keys are")
-    words = words.parse_args()
+    return words.parse_args()
+
+
+def main():
+    global validator
+    words = words_of_run()
     if not shutil.which("openssl"):
         print("files: there is no openssl: nothing was compared")
         return 0
@@ -316,30 +375,11 @@ def main():
         validator = documents.validator()
         if words.keep:
             os.makedirs(words.keep, exist_ok=True)
-        shop = Workshop(words.keep or folder)
-        everything.make(shop)
-        made = [it for it in shop.made if os.path.basename(it.path).startswith(words.only)]
-        made = left_in(program, made)
-        read = []
-        for it, document in zip(made, each_document(program, [it.path for it in made])):
-            if compare_made(it, document):
-                read.append((it, document))
-        try_wrong_documents(read)
-        compare_with_openssl([(it, document["messages"][0]) for it, document in read if not it.unasked])
-        compare_texts(program, read)
-        if words.spoilt:
-            compare_spoilt(program, shop)
         if not words.only:
-            compare_store(program, shop.folder)
-    told = ", ".join(f"{count} {kind}" for kind, count in sorted(counts.items()))
-    if not words.only and sum(counts.values()) < LEAST:
-        fail(f"there are {sum(counts.values())} files, and not {LEAST}")
-    texts, faults = answers.pop("text", 0), answers.pop("planted", 0)
-    if words.spoilt:
-        told += "; of the spoilt ones " + ", ".join(f"{count} {answer}" for answer, count in sorted(answers.items()))
-    print(f"files: {sum(counts.values())} files ({told}); {sum(fields.values())} fields compared, "
-          f"{sum(said.values())} beside what openssl says, {texts} texts beside their documents; "
-          f"{faults} wrong documents found; {len(wrong)} wrong")
+            compare_few(program, f"{words.keep or folder}/few")
+        if not words.few:
+            compare_many(program, Workshop(words.keep or folder), words)
+    tell_counts(words)
     return 1 if wrong else 0
 
 

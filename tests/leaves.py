@@ -13,7 +13,9 @@ import subprocess
 import sys
 import tempfile
 
-ROOT = os.path.dirname(os.path.dirname(os.path.abspath(__file__)))
+from lib import ROOT
+from lib.octets import sequence, tlv
+
 sys.path.insert(0, f"{ROOT}/tools")
 
 from asn1.model import Whole  # noqa: E402
@@ -104,12 +106,6 @@ def module():
     return f"Leaves DEFINITIONS IMPLICIT TAGS ::= BEGIN\n{lines}END\n"
 
 
-def tlv(tag, *contents):
-    octets = b"".join(contents)
-    assert len(octets) < 0x80
-    return bytes([tag, len(octets)]) + octets
-
-
 def after(i, row):
     """An encoding after the tag [i]: ANY keeps its own tag within it (X.680 31.2.7)."""
     octets = bytes.fromhex(row[3])
@@ -123,7 +119,7 @@ def values():
     for name, digits in OF_WORDS:
         yield name, bytes.fromhex(digits)
     for number, group in enumerate(GROUPS):
-        yield f"Alone{number}", tlv(0x30, *(bytes.fromhex(row[3]) for row in group))
+        yield f"Alone{number}", sequence(*(bytes.fromhex(row[3]) for row in group))
         for i, row in enumerate(group):
             yield f"Choice{number}", after(i, row)
 

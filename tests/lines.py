@@ -16,9 +16,9 @@ import time
 from concurrent.futures import ThreadPoolExecutor
 
 sys.dont_write_bytecode = True
-sys.path.insert(0, os.path.dirname(os.path.abspath(__file__)))
-import programs
-from values import TWINS, VALUES, WIDER, Row, digits, integer, names_of_derview, row, tlv
+from lib import programs
+from lib.octets import integer, tlv
+from lib.values import TWINS, VALUES, WIDER, Row, digits, names_of_derview, row
 
 SEED = 690
 LINES = 200000

@@ -21,10 +21,9 @@ import sys
 import tempfile
 
 sys.dont_write_bytecode = True
-sys.path.insert(0, os.path.dirname(os.path.abspath(__file__)))
-import programs
+from lib import programs
 
-FOLDER = f"{programs.HERE}/messages"
+FOLDER = f"{programs.TESTS}/messages"
 ROW = re.compile(r"([a-z0-9]+) ((?:[0-9a-f]{2})+|-) (same|ok (?:[0-9a-f]{2})+|(?:cuts )?refused [0-9]+)")
 # Few enough lines that the program which 'rt try' builds asks for memory less often than the request that it is refused.
 AT_ONCE = 50

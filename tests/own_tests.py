@@ -11,10 +11,10 @@ import unittest
 
 import dearest
 import edits
-from edit_checks import Answer
-from edit_texts import Edit
-from kept_edits import Kept, Record, Refusal, refusal_of
-from lots import drawn, drawn_tests
+from lib.edit_checks import Answer
+from lib.edit_texts import Edit
+from lib.kept_edits import Kept, Record, Refusal, refusal_of
+from lib.lots import drawn, drawn_tests
 
 SOURCE = "/// Adds one.\nfn one_more(n: u8) -> u8 {\n    n + 1\n}\n\nfn one_less(n: u8) -> u8 {\n    n - 1\n}\n"
 

@@ -16,8 +16,8 @@ import sys
 import tempfile
 from concurrent.futures import ThreadPoolExecutor
 
-from edit_checks import Answer, Builds, crates_of, kit_of_rt, ran
-from lots import drawn_tests, seed_of
+from lib.edit_checks import Answer, Builds, crates_of, kit_of_rt, ran
+from lib.lots import drawn_tests, seed_of
 
 ROOT = os.path.dirname(os.path.dirname(os.path.abspath(__file__)))
 TEST = re.compile(r"^#\[test\]\n(?:#\[.*\]\n)*fn (\w+)", re.M)

@@ -13,7 +13,7 @@ import shutil
 import sys
 import tempfile
 
-from edit_checks import Builds, Crate, crates_of, kit_of_rt
+from lib.edit_checks import Builds, Crate, crates_of, kit_of_rt
 
 ROOT = os.path.dirname(os.path.dirname(os.path.abspath(__file__)))
 

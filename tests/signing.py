@@ -4,14 +4,13 @@ P-256 and of RSA; openssl then verifies each, and says what it has.
 
 The octets come from a program of the folder signing, which `rt try` builds (that needs a C compiler). The last line counts."""
 
-import os
 import subprocess
 import sys
 import tempfile
 
 sys.dont_write_bytecode = True
-sys.path.insert(0, os.path.dirname(os.path.abspath(__file__)))
-import programs
+from lib import programs
+from lib.octets import sequence, tlv
 
 USES = "der_asn1_types der_build der_examples der_pkix der_verify hex"
 KEYS = {
@@ -41,14 +40,6 @@ def openssl(*words, given=None):
     return ran.stdout
 
 
-def tlv(tag, contents):
-    size = len(contents)
-    if size < 128:
-        return bytes([tag, size]) + contents
-    octets = size.to_bytes((size.bit_length() + 7) // 8, "big")
-    return bytes([tag, 128 + len(octets)]) + octets + contents
-
-
 def public_octets(kind, key):
     """The octets of a public key that der_build takes: an RSAPublicKey, or what the BIT STRING has."""
     if kind == "rsa":
@@ -63,7 +54,7 @@ def signed(kind, key, octets, folder):
         opened.write(octets)
     words = ["pkeyutl", "-sign", "-rawin", "-in", file, "-inkey", key]
     signature = openssl(*words, *([] if kind == "ed25519" else ["-digest", "sha256"]))
-    return tlv(0x30, octets + bytes.fromhex(KEYS[kind][1]) + tlv(0x03, b"\0" + signature))
+    return sequence(octets, bytes.fromhex(KEYS[kind][1]), tlv(0x03, b"\0", signature))
 
 
 def told(what, file):
@@ -95,7 +86,7 @@ def main():
     passed = failed = 0
     with tempfile.TemporaryDirectory(prefix="signing-") as folder:
         program = f"{folder}/program"
-        programs.build("signing", program, f"{programs.HERE}/signing", USES)
+        programs.build("signing", program, f"{programs.TESTS}/signing", USES)
         for what in WANTED:
             for kind in KEYS:
                 try:

@@ -9,8 +9,8 @@ then these commands prove the libraries again, which takes long and changes noth
 import os
 import sys
 
-from edit_checks import kit_of_rt
-from kept_edits import rtlib_of
+from lib.edit_checks import kit_of_rt
+from lib.kept_edits import rtlib_of
 
 
 def mark(tree):

@@ -1,9 +1,9 @@
 """Whether a page quotes whole items, and all of them: told from the page's text and the sources' as runs of letters, and not
-by the lines that tests/quoting.py takes."""
+by the lines that quoting.py takes."""
 import re
 from collections import Counter
 
-from quoting import HEAD, HIDDEN, MEMBERS
+from .quoting import HEAD, HIDDEN, MEMBERS
 
 SECTION = re.compile(r"^### (\S+)\n\n```text\n(.*?)^```$", re.S | re.M)
 BEGINS = re.compile(r'^ *(?:pub )?(?:const )?(?:unsafe )?(?:extern "C" )?(?:fn (\w+)|ghost (\w+) = )')

@@ -2,13 +2,12 @@
 docs/ARCHITECTURE.md, and on docs/TRUST.md the crates without mutants, the kit's libraries and the mutants that are refused by
 little."""
 import glob
-import os
 import re
 import subprocess
 
-from kept_edits import Record
+from . import ROOT
+from .kept_edits import Record
 
-ROOT = os.path.dirname(os.path.dirname(os.path.abspath(__file__)))
 WORD = re.compile(r"`([\w./-]+)`")
 ROW = re.compile(r"^\| `([\w.]+)` \|.*\| ([^|]+) \|$", re.M)
 
@@ -31,10 +30,12 @@ def uses():
 
 
 def scripts():
-    """Each file and folder of tests/ stands on its page, and a script there is run by what the page says."""
+    """Each file and folder of tests/ and of tests/lib/ stands on its page, and a script is run by what the page says."""
     page = text_of("tests/README.md")
     tracked = subprocess.run(["git", "ls-files", "tests"], cwd=ROOT, capture_output=True, text=True, check=True).stdout.split()
-    there = {it.split("/")[1] for it in tracked} - {"README.md"}
+    shared = {it.split("/")[2] for it in tracked if it.startswith("tests/lib/")}
+    there = {it.split("/")[1] for it in tracked} | shared
+    there -= {"README.md", "__init__.py"}
     listed = {it.strip("/") for it in WORD.findall(page)}
     found = [f"tests/README.md lacks {it}" for it in sorted(there - listed)]
     for name, by in ROW.findall(page):

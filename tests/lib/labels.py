@@ -4,7 +4,8 @@ import glob
 import os
 import re
 
-ROOT = os.path.dirname(os.path.dirname(os.path.abspath(__file__)))
+from . import ROOT
+
 SOURCES = [path for crate in ("certview_parts", "certview_text") for path in sorted(glob.glob(f"{ROOT}/crates/{crate}/src/*.rt"))]
 STRING = re.compile(r'"([^"\\]*)"')
 

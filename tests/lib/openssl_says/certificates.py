@@ -5,7 +5,7 @@ import re
 from . import asking
 from . import extensions as extension_values
 from .asking import Compared, after, ask, date, hexadecimal, latin, name, names_of, serial, values
-from reader.names import NAMES
+from ..reader.names import NAMES
 
 # Algorithms that openssl calls otherwise than their standards do, by openssl's names in small letters with dashes.
 ALGORITHMS = {

@@ -4,45 +4,11 @@ Nothing here is taken from the crates: the octets follow X.690 as docs/FORMAT.md
 """
 
 import calendar
-import os
 import random
 import re
 
-HERE = os.path.dirname(os.path.abspath(__file__))
-
-
-def length(count):
-    if count < 128:
-        return bytes([count])
-    octets = count.to_bytes((count.bit_length() + 7) // 8, "big")
-    return bytes([0x80 + len(octets)]) + octets
-
-
-def identifier(bits, number):
-    """The identifier octets of a tag: the three high bits of the first octet, and the number."""
-    if number < 31:
-        return bytes([bits + number])
-    digits = [number & 127]
-    while number > 127:
-        number >>= 7
-        digits.insert(0, 128 + (number & 127))
-    return bytes([bits + 31, *digits])
-
-
-def tlv(tag, contents):
-    return (tag if isinstance(tag, bytes) else bytes([tag])) + length(len(contents)) + contents
-
-
-def signed(value):
-    """The fewest octets of two's complement."""
-    count = 1
-    while not -(1 << (8 * count - 1)) <= value < 1 << (8 * count - 1):
-        count += 1
-    return value.to_bytes(count, "big", signed=True)
-
-
-def integer(value):
-    return tlv(2, signed(value))
+from . import ROOT
+from .octets import identifier, integer, tlv
 
 
 def some_number(r, low, high):
@@ -298,6 +264,6 @@ def one_of_each():
 
 def names_of_derview():
     """The type names that derview's source has."""
-    with open(f"{os.path.dirname(HERE)}/crates/derview_names/src/names.rt") as source:
+    with open(f"{ROOT}/crates/derview_names/src/names.rt") as source:
         source = source.read()
     return set(re.findall(r'"([a-z0-9-]+)" => ', source)) | set(re.findall(r'is_name\(name, "([a-z0-9-]+)"\)', source))

@@ -3,7 +3,7 @@ definitions that their contracts name."""
 import glob
 import re
 
-from quoting import quoted_of
+from .quoting import quoted_of
 
 FACADE = "crates/der_asn1_types"
 USE = re.compile(r"^pub use ([\w:]+?)::(\{[^}]*\}|\w+(?: as \w+)?);", re.M)

@@ -6,7 +6,7 @@ from . import asking
 from .asking import Compared, after, ask, date, dumped, names_of, serial, values
 from .certificates import algorithm, named, signature
 from .places import IDENTIFIER
-from maker.keys import PASSWORD
+from ..maker.keys import PASSWORD
 
 DUMP = r"((?: *[0-9a-f]{4,} - .*\n)*)"
 

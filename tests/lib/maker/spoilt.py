@@ -2,7 +2,7 @@
 
 import os
 
-from reader import pem
+from ..reader import pem
 
 FILES_OF_A_KIND = 7
 CUTS, CHANGES = 3, 7

@@ -8,7 +8,7 @@ import tempfile
 import threading
 import time
 
-from kept_edits import built_of_sources, octets_of, sum_of, sum_of_sources
+from .kept_edits import built_of_sources, octets_of, sum_of, sum_of_sources
 
 STATUS = re.compile(r"^fn (\S+): (.*)$", re.M)
 # What antt says of a text that it cannot read, where an edit has to read well.

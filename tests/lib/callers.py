@@ -76,7 +76,7 @@ def wrong(crate):
     if crate == OF_CALLERS:
         return []
     if crate not in CALLERS:
-        return [f"{crate} has no caller in tests/callers.py"]
+        return [f"{crate} has no caller in tests/lib/callers.py"]
     return [f"a caller of {crate} is not there, or does not use it: {' '.join(it)}" for it in CALLERS[crate] if not quoted(crate, *it)]
 
 

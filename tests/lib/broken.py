@@ -4,7 +4,8 @@ A row has the section, what certview --check says is wrong, the message, and the
 is absent.
 """
 
-from hand_made import FIRST, OUTER, OTHER, certificate, extension, name, of_ce, revocation, tlv
+from .hand_made import FIRST, OUTER, OTHER, certificate, extension, name, of_ce, revocation
+from .octets import tlv
 
 ACCESS = b"\x2b\x06\x01\x05\x05\x07\x01"
 POINTS = b"\x30\x0a\x30\x08\xa0\x06\xa0\x04\x86\x02a:"

@@ -2,7 +2,8 @@
 is about, and has the octets, the line that is shown of the part, and the faults that a document has of it: the number, the words and
 the position of each."""
 
-from hand_made import FIRST, INNER, KEY, certificate, extension, of_ce, tlv
+from .hand_made import FIRST, INNER, KEY, certificate, extension, of_ce
+from .octets import tlv
 
 NULL = "contents of a length that NULL does not have"
 BITS = b"\x03\x02\x00\x01"

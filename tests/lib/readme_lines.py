@@ -6,7 +6,8 @@ import re
 import shutil
 import sys
 
-ROOT = os.path.dirname(os.path.dirname(os.path.abspath(__file__)))
+from . import ROOT
+
 BLOCK = re.compile(r"^```text\n(C  .*?)^```$", re.S | re.M)
 LANGUAGES = ["C", "Rust", "Python", "Go"]
 C = """#include "der.h"

@@ -1,12 +1,6 @@
 """Certificates and lists of revoked certificates that are built by hand. Nothing is signed: the signature is a row of zeros."""
 
-
-def tlv(tag, *parts):
-    octets = b"".join(parts)
-    count = len(octets)
-    if count < 128:
-        return bytes([tag, count]) + octets
-    return bytes([tag, 0x81, count] if count < 256 else [tag, 0x82, count >> 8, count & 255]) + octets
+from .octets import tlv
 
 
 def algorithm(last):

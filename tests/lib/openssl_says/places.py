@@ -5,8 +5,8 @@ import functools
 import re
 
 from . import asking
-from reader import pem, values
-from reader.octets import Encoding, Refused
+from ..reader import pem, values
+from ..reader.octets import Encoding, Refused
 
 LINE = re.compile(r" *(\d+):d=\d+ +hl=(\d+) l= *(\d+) (prim|cons): ([^:\n]*?) *(?::(.*))?")
 IDENTIFIER = re.compile(r"\d+(?:\.\d+)+(?=$| \(|,)")

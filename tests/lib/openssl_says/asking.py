@@ -3,7 +3,7 @@
 import re
 import subprocess
 
-from reader import pem, texts
+from ..reader import pem, texts
 
 # A name as RFC 4514 writes it, in the order of its attributes.
 NAMES = ["-nameopt", "esc_2253,esc_ctrl,utf8,dump_nostr,dump_der,sep_comma_plus_space,sname"]

@@ -4,7 +4,8 @@ that begins with `malformed (4` goes on with the words and the place of the faul
 
 import base64
 
-from hand_made import KEY, algorithm, tlv
+from .hand_made import KEY, algorithm
+from .octets import tlv
 
 DATA = bytes.fromhex("2a864886f70d0107")
 PKCS12 = bytes.fromhex("2a864886f70d010c0a01")

@@ -1,6 +1,6 @@
 """Files of which openssl has no command for the whole: their parts are named one by one, and `asn1parse -genconf` writes them."""
 
-import irregular as by_hand
+from .. import irregular as by_hand
 
 from .workshop import Made
 

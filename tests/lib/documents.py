@@ -1,11 +1,11 @@
 """Documents that certview writes with --json, beside what it prints of the same files, and beside their schema."""
 
 import json
-import os
 import re
 
-HERE = os.path.dirname(os.path.abspath(__file__))
-SCHEMA = f"{os.path.dirname(HERE)}/docs/certview.schema.json"
+from . import ROOT
+
+SCHEMA = f"{ROOT}/docs/certview.schema.json"
 LINE = re.compile(r"(?: {13}| *(\d+) +(\d+)  )([^:]+): (.*)")
 TITLE = re.compile(r" *(\d+) +(\d+)  ([^:]+)")
 HEADING = re.compile(r"block (\d+) of (\d+): (.*)")
