@@ -17,9 +17,10 @@ import sys
 import tempfile
 import warnings
 
+from lib import ROOT
 from lib.readme_lines import try_lines
+from lib.trials import Trials, write_files
 
-ROOT = os.path.dirname(os.path.dirname(os.path.abspath(__file__)))
 SYSTEM = "/etc/ssl/certs/ca-certificates.crt"
 # what the shared object may ask of the C library, and of the linker
 ASKED = re.compile(r"^(malloc|realloc|free|mem(cpy|move|set|cmp)|bcmp|_ITM_.*|__gmon_start__|__cxa_finalize|__stack_chk_fail)$")
@@ -27,44 +28,6 @@ CALLS = """abi_version attribute attribute_type_and_value basic_ocsp_response ca
 certification_request check_rfc5280 check_rfc5280_list content_info contents extension next_encoding number_text
 ocsp_response private_key_info revoked_certificate signed_data signed_octets signer_info single_response
 subject_public_key_info""".split()
-
-
-class Trials:
-    """What was tried, counted and said, of something with a name."""
-
-    def __init__(self, of):
-        self.of = of
-        self.passed = self.failed = 0
-
-    def tell(self, name, why):
-        """Counts a trial, with what is wrong, or nothing."""
-        self.passed, self.failed = self.passed + (not why), self.failed + bool(why)
-        print(f"FAILED: {self.of}: {name}: {why}" if why else f"{self.of}: {name}: well", flush=True)
-
-    def run(self, name, words, **others):
-        """Runs a command that must end with the status 0; gives what it printed."""
-        ran = subprocess.run(words, text=True, stdout=subprocess.PIPE, stderr=subprocess.STDOUT, **others)
-        self.tell(name, ran.returncode and f"status {ran.returncode}: {ran.stdout[-2000:]}")
-        return ran.stdout
-
-    def left_out(self, name, tool):
-        print(f"{self.of}: {name}: left out, since {tool} is not there", flush=True)
-
-
-def pem_blocks(text, label):
-    """The octets of the blocks of a PEM text with this label."""
-    blocks = re.findall(f"-----BEGIN {label}-----\n(.*?)-----END {label}-----", text, re.S)
-    return [base64.b64decode(block) for block in blocks]
-
-
-def write_files(text, label, folder):
-    """Writes each block into a file of its own; gives their names."""
-    names = []
-    for number, octets in enumerate(pem_blocks(text, label)):
-        names.append(f"{folder}/{label.lower().replace(' ', '-')}-{number}.der")
-        with open(names[-1], "wb") as file:
-            file.write(octets)
-    return names
 
 
 def make_answers(room):
@@ -258,10 +221,8 @@ def try_go(trials, room, files):
 def main(words):
     tree = words[1] if words[:1] == ["--built"] else ROOT
     trials = Trials("c")
-    if not shutil.which("cc") or not shutil.which("make"):
-        trials.left_out("the library for C", "a C compiler or make")
-        print("0 passed, 0 failed")
-        return 0
+    if not trials.can_build("the library for C"):
+        return trials.end()
     with tempfile.TemporaryDirectory(prefix="der-c-") as room:
         trials.run("rt lib", ["rt", "lib"], cwd=f"{tree}/crates/der_c")
         shutil.copy(f"{tree}/crates/der_c/out/libder_c.a", f"{room}/proved.a")
@@ -279,8 +240,7 @@ def main(words):
         try_python(trials, room, own)
         try_go(trials, room, own)
         try_lines(trials, room, samples[0])
-    print(f"{trials.passed} passed, {trials.failed} failed")
-    return 1 if trials.failed else 0
+    return trials.end()
 
 
 if __name__ == "__main__":

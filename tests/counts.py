@@ -10,7 +10,8 @@ import os
 import sys
 
 sys.dont_write_bytecode = True
-ROOT = os.path.dirname(os.path.dirname(os.path.abspath(__file__)))
+from lib import ROOT
+
 sys.path.insert(0, f"{ROOT}/bench")
 import counts
 

@@ -36,12 +36,12 @@ import threading
 import time
 from concurrent.futures import ThreadPoolExecutor
 
+from lib import ROOT
 from lib.edit_checks import Builds, crates_of, kit_of_rt
 from lib.edit_texts import Edit, group_of
 from lib.kept_edits import PARTS, RULES, Kept, Record, Refusal, sum_of, sum_of_kit, sum_of_sources
 from lib.lots import drawn, seed_of
 
-ROOT = os.path.dirname(os.path.dirname(os.path.abspath(__file__)))
 # How many seconds the edits of a crate take for each of its bytes and of the crates that it stands on, where no run has told.
 SECONDS = 1 / 2500
 # The share of the record's seconds that is tried again.

@@ -281,9 +281,7 @@ def main(words):
         print(f"faults: there is no C compiler {programs.COMPILER} (set CC): nothing was refused")
         return 1
     with tempfile.TemporaryDirectory(prefix="der-faults-") as folder:
-        library = f"{folder}/refuse.so"
-        compiler = programs.COMPILER.split()
-        subprocess.run([*compiler, "-shared", "-fPIC", "-O2", "-o", library, f"{programs.HERE}/refuse.c"], check=True)
+        library = programs.refusing_library(folder)
         with ThreadPoolExecutor(3) as pool:
             calls = pool.submit(refuse_calls, folder)
             first = None if "--quick" in words else pool.submit(refuse_first_requests)

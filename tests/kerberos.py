@@ -7,13 +7,13 @@ a text that is paged as RFC 4120 is, its crate is written, and a program reads t
 A line of that file is a row: the name of a message, its octets in hexadecimal, and the program's answer; 'cuts' before the answer
 says that each beginning of the octets is answered so. A line that begins with '#' says where the rows below it are from. What the
 page says is not checked is what tools/asn1 says, and what it quotes stands in the program. The last line counts."""
-import os
 import re
-import subprocess
 import sys
 import tempfile
 
-ROOT = os.path.dirname(os.path.dirname(os.path.abspath(__file__)))
+from lib import ROOT
+from lib.trials import Trials, walked
+
 PAGE = "docs/FROM_AN_RFC.md"
 MODULE = "tools/asn1/tests/modules/KerberosV5Spec2.asn1"
 RUN = "rt try < ../../messages > ../../answers\n"
@@ -31,15 +31,8 @@ FOOT = "\n\nNeuman, et al.              Standards Track                   [Page 
 LINES_OF_A_PAGE = 50
 # What the remarks of the module may say, as the page has it.
 UNCHECKED = r"which values are allowed"
-told, failed = [], []
-
-
-def holds(what, fact):
-    told.append(what)
-    if not fact:
-        failed.append(what)
-        print(f"FAILED: kerberos: {what}")
-    return fact
+trials = Trials("kerberos")
+holds = trials.holds
 
 
 def text_of(path):
@@ -61,17 +54,6 @@ def paged(text):
 
 def blocks(language):
     return re.findall(rf"^```{language}\n(.*?)^```$", text_of(f"{ROOT}/{PAGE}"), re.S | re.M)
-
-
-def run(folder, lines):
-    """Whether lines of the page succeed in a folder, and what they say."""
-    ran = subprocess.run(
-        ["bash", "-euo", "pipefail", "-c", lines], cwd=folder, env={**os.environ, "DER": ROOT}, stdin=subprocess.DEVNULL,
-        stdout=subprocess.PIPE, stderr=subprocess.STDOUT, text=True, errors="replace",
-    )
-    if ran.returncode:
-        print(ran.stdout[-2000:])
-    return not ran.returncode, ran.stdout
 
 
 def rows():
@@ -101,7 +83,7 @@ def look_at_answers(folder):
     """The program's answers beside those of the rows."""
     wanted = list(rows())
     write(f"{folder}/messages", "".join(f"{question}\n" for question, _ in wanted))
-    ran, _ = run(f"{folder}/crates/kerberos_lines", RUN)
+    ran, _ = walked(f"{folder}/crates/kerberos_lines", RUN)
     if not holds("the program runs", ran):
         return
     given = [it.rstrip() for it in text_of(f"{folder}/answers").splitlines()]
@@ -118,12 +100,11 @@ def main():
     holds("the answers on the page are those of rows", all(line in answers for it in blocks("text") for line in it.splitlines()))
     with tempfile.TemporaryDirectory(prefix="der-kerberos-") as folder:
         write(f"{folder}/rfc4120.txt", FORM + paged(text_of(f"{ROOT}/{MODULE}")) + "\nB.  Changes since RFC 1510\n")
-        ran, said = run(folder, steps)
+        ran, said = walked(folder, steps)
         if holds(f"the steps of {PAGE} run", ran):
             look_at_writing(f"{folder}/my_kerberos", said)
             look_at_answers(f"{folder}/my_kerberos")
-    print(f"{len(told) - len(failed)} passed, {len(failed)} failed")
-    return 1 if failed else 0
+    return trials.end()
 
 
 if __name__ == "__main__":

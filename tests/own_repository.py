@@ -14,18 +14,12 @@ import sys
 import tempfile
 
 sys.dont_write_bytecode = True
-from lib import address_rows
+from lib import ROOT, address_rows
+from lib.trials import Trials, walked
 
-ROOT = os.path.dirname(os.path.dirname(os.path.abspath(__file__)))
 SECTION = "## In a repository of your own\n"
-told, failed = [], []
-
-
-def holds(what, fact):
-    told.append(what)
-    if not fact:
-        failed.append(what)
-        print(f"FAILED: own_repository: {what}")
+trials = Trials("own_repository")
+holds = trials.holds
 
 
 def steps():
@@ -34,17 +28,6 @@ def steps():
         section = it.read().split(SECTION, 1)[1]
     blocks = re.findall(r"^```sh\n(.*?)^```$", section, re.S | re.M)
     return re.sub(r"^rt check$", "", "".join(blocks), flags=re.M).rpartition("rt try --test\n")[:2]
-
-
-def walk(folder, lines):
-    """Runs lines of the steps, and says whether all have succeeded."""
-    ran = subprocess.run(
-        ["bash", "-euc", lines], cwd=folder, env={**os.environ, "DER": ROOT}, stdin=subprocess.DEVNULL,
-        stdout=subprocess.PIPE, stderr=subprocess.STDOUT, text=True, errors="replace",
-    )
-    if ran.returncode:
-        print(ran.stdout[-2000:])
-    return not ran.returncode
 
 
 def add_rows(crate):
@@ -114,14 +97,13 @@ def look_at_refusals(folder):
 def main():
     with tempfile.TemporaryDirectory(prefix="der-own-") as folder:
         before, last = steps()
-        holds("the steps of docs/USING.md run, and the test of the first crate passes", walk(folder, before))
+        holds("the steps of docs/USING.md run, and the test of the first crate passes", walked(folder, before)[0])
         tests = f"{folder}/my_repository/crates/my_addresses_tests"
         add_rows(tests)
-        holds("the tests of the last step pass", walk(tests, last))
+        holds("the tests of the last step pass", walked(tests, last)[0])
         look_at_lists(f"{folder}/my_repository")
         look_at_refusals(f"{folder}/my_repository")
-    print(f"{len(told) - len(failed)} passed, {len(failed)} failed")
-    return 1 if failed else 0
+    return trials.end()
 
 
 if __name__ == "__main__":

@@ -16,10 +16,10 @@ import sys
 import tempfile
 from concurrent.futures import ThreadPoolExecutor
 
+from lib import ROOT
 from lib.edit_checks import Answer, Builds, crates_of, kit_of_rt, ran
 from lib.lots import drawn_tests, seed_of
 
-ROOT = os.path.dirname(os.path.dirname(os.path.abspath(__file__)))
 TEST = re.compile(r"^#\[test\]\n(?:#\[.*\]\n)*fn (\w+)", re.M)
 SHARE = 1 / 20
 

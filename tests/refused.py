@@ -13,9 +13,8 @@ import shutil
 import sys
 import tempfile
 
+from lib import ROOT
 from lib.edit_checks import Builds, Crate, crates_of, kit_of_rt
-
-ROOT = os.path.dirname(os.path.dirname(os.path.abspath(__file__)))
 
 
 def copy_file(source, room):

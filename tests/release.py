@@ -15,7 +15,8 @@ import subprocess
 import sys
 import tempfile
 
-from c import ROOT, Trials, write_files
+from lib import ROOT
+from lib.trials import Trials, write_files
 
 PYTHON = """import sys, derproved
 one = derproved.Certificate(open(sys.argv[1], "rb").read())
@@ -188,10 +189,8 @@ def use_programs(machine):
 def main(words):
     tree = words[1] if words[:1] == ["--built"] else ROOT
     trials = Trials("release")
-    if not shutil.which("cc") or not shutil.which("make"):
-        trials.left_out("the release", "a C compiler or make")
-        print("0 passed, 0 failed")
-        return 0
+    if not trials.can_build("the release"):
+        return trials.end()
     with tempfile.TemporaryDirectory(prefix="der-release-") as room:
         with open(f"{ROOT}/crates/certview/stdin", encoding="utf-8") as file:
             sample = write_files(file.read(), "CERTIFICATE", room)[0]
@@ -202,8 +201,7 @@ def main(words):
                 use(machine)
             machine.agree()
             use_programs(machine)
-    print(f"{trials.passed} passed, {trials.failed} failed")
-    return 1 if trials.failed else 0
+    return trials.end()
 
 
 if __name__ == "__main__":

@@ -11,6 +11,7 @@ import tempfile
 sys.dont_write_bytecode = True
 from lib import programs
 from lib.octets import sequence, tlv
+from lib.trials import Trials
 
 USES = "der_asn1_types der_build der_examples der_pkix der_verify hex"
 KEYS = {
@@ -83,7 +84,7 @@ def tried(program, what, kind, folder):
 
 
 def main():
-    passed = failed = 0
+    trials = Trials("signing")
     with tempfile.TemporaryDirectory(prefix="signing-") as folder:
         program = f"{folder}/program"
         programs.build("signing", program, f"{programs.TESTS}/signing", USES)
@@ -93,11 +94,8 @@ def main():
                     wrong = tried(program, what, kind, folder)
                 except RuntimeError as error:
                     wrong = [str(error)]
-                for it in wrong:
-                    print(f"FAILED: signing: {what} {kind}: {it}"[:2000], flush=True)
-                passed, failed = passed + (not wrong), failed + bool(wrong)
-    print(f"{passed} passed, {failed} failed")
-    return 1 if failed else 0
+                trials.count(f"{what} {kind}", "; ".join(wrong)[:2000])
+    return trials.end()
 
 
 if __name__ == "__main__":

@@ -307,28 +307,30 @@ def show_what_is_alike(program):
             fail(f"{shown} twice")
 
 
+EARLY = "a time before 1970, which is not read"
+
+
+def early_times():
+    """Octets, the place of a time, the time, its field and what is said of it: of times before 1970, and of others that are none."""
+    none = "contents that are no value of "
+    certificate, utc, general = message("ED25519"), f"{none}UTCTime", f"{none}GeneralizedTime"
+    for time, words in (
+        (b"500101000000Z", EARLY), (b"691231235959Z", EARLY), (b"680229000000Z", EARLY), (b"690229000000Z", utc), (b"691301000000Z", utc),
+        (b"690001000000Z", utc), (b"690100000000Z", utc), (b"690101240000Z", utc), (b"690101006000Z", utc), (b"690101000060Z", utc),
+        (b"690101000000z", utc), (b"6901010000:0Z", utc), (b"701301000000Z", utc), (b"491301000000Z", utc), (b"000230000000Z", utc),
+    ):
+        yield certificate, 62, time, "tbsCertificate.validity.notBefore", words
+    for time, words in (
+        (b"19691231235959Z", EARLY), (b"00010101000000Z", EARLY), (b"00000229000000Z", EARLY), (b"19000229000000Z", general),
+        (b"19640229000000Z", EARLY), (b"19700230000000Z", general), (b"20260230000000Z", general), (b"19691231235960Z", general),
+    ):
+        yield certificate, 77, time, "tbsCertificate.validity.notAfter", words
+    yield message("LIST"), 72, b"550101000000Z", "tbsCertList.revokedCertificates.revocationDate", EARLY
+
+
 def show_early_times(program):
     """A time before 1970 that the standards have is told as such, in text and in JSON; another fault of a time is not."""
-    early, none = "a time before 1970, which is not read", "contents that are no value of "
-    certificate, revocation = message("ED25519"), message("LIST")
-    utc, general = f"{none}UTCTime", f"{none}GeneralizedTime"
-    rows = [
-        (certificate, 62, time, "tbsCertificate.validity.notBefore", words)
-        for time, words in (
-            (b"500101000000Z", early), (b"691231235959Z", early), (b"680229000000Z", early), (b"690229000000Z", utc), (b"691301000000Z", utc),
-            (b"690001000000Z", utc), (b"690100000000Z", utc), (b"690101240000Z", utc), (b"690101006000Z", utc), (b"690101000060Z", utc),
-            (b"690101000000z", utc), (b"6901010000:0Z", utc), (b"701301000000Z", utc), (b"491301000000Z", utc), (b"000230000000Z", utc),
-        )
-    ]
-    rows += [
-        (certificate, 77, time, "tbsCertificate.validity.notAfter", words)
-        for time, words in (
-            (b"19691231235959Z", early), (b"00010101000000Z", early), (b"00000229000000Z", early), (b"19000229000000Z", general),
-            (b"19640229000000Z", early), (b"19700230000000Z", general), (b"20260230000000Z", general), (b"19691231235960Z", general),
-        )
-    ]
-    rows.append((revocation, 72, b"550101000000Z", "tbsCertList.revokedCertificates.revocationDate", early))
-    for octets, place, time, field, words in rows:
+    for octets, place, time, field, words in early_times():
         given = with_octets(octets, place, time)
         fault = {"number": 13, "words": words, "position": place + len(time), "field": field}
         told = f"refused (13): {words}, at position {place + len(time)}"
@@ -341,7 +343,7 @@ def show_early_times(program):
             fail(f"the time {time!r}: {document['refused']}, {parts}")
     period = hand_made.of_ce(16, b"\x30\x11\x80\x0f19601231235959Z")
     text = run(program, ["--fields", "extension"], hand_made.certificate(more=[period])[0])[1].decode()
-    if f"19 octets, malformed (13: {early}) at position " not in text:
+    if f"19 octets, malformed (13: {EARLY}) at position " not in text:
         fail(f"a time of a period: {text!r}")
 
 
@@ -600,9 +602,7 @@ def main():
         print(f"views: there is no C compiler {programs.COMPILER} (set CC): nothing was run")
         return 1
     with tempfile.TemporaryDirectory(prefix="der-views-") as folder:
-        library = f"{folder}/refuse.so"
-        compiler = programs.COMPILER.split()
-        subprocess.run([*compiler, "-shared", "-fPIC", "-O2", "-o", library, f"{programs.HERE}/refuse.c"], check=True)
+        library = programs.refusing_library(folder)
         program = programs.certview(folder)
         show_files(program, folder)
         show_names_of_octets(program, folder)

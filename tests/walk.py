@@ -15,7 +15,8 @@ import sys
 import tempfile
 import time
 
-ROOT = os.path.dirname(os.path.dirname(os.path.abspath(__file__)))
+from lib import ROOT
+
 BLOCK = re.compile(r"^```sh\n(.*?)^```$", re.S | re.M)
 PAGES = ("README.md", "tools/asn1/README.md", "docs/USING.md", "docs/C.md")
 # A line of one of these has a word that stands for a file, or is for a release that was unpacked.

@@ -53,6 +53,13 @@ def build(name, to, extra=None, uses="der_asn1_types", refuses=True):
         shutil.move(kept, to)
 
 
+def refusing_library(folder):
+    """A shared library that has reads and writes fail, for LD_PRELOAD (refuse.c)."""
+    library = f"{folder}/refuse.so"
+    subprocess.run([*COMPILER.split(), "-shared", "-fPIC", "-O2", "-o", library, f"{HERE}/refuse.c"], check=True)
+    return library
+
+
 def proved():
     """The program that `rt run` built, if no source is newer."""
     program = f"{ROOT}/crates/derview/out/derview"

@@ -1,6 +1,6 @@
 //! Certificates and their extensions.
 
-use crate::place::{at, fields, if_there, optional_fields, read};
+use crate::place::{at, fields, if_there, items, optional_fields, read};
 use crate::{contents, Error, Name};
 use der_proved_sys as sys;
 
@@ -80,43 +80,15 @@ impl<'a> Certificate<'a> {
     }
 }
 
-/// Goes over extensions.
-#[derive(Clone, Debug)]
-pub struct Extensions<'a> {
-    left: &'a [u8],
+items! {
+    /// Goes over extensions.
+    Extensions, Extension, der_extension
 }
 
 impl<'a> Extensions<'a> {
     /// Those of a field with an explicit tag.
     pub(crate) fn after_tag(field: Option<&'a [u8]>) -> Extensions<'a> {
         Extensions::listed(field.map(contents))
-    }
-
-    /// Those of a field without one.
-    pub(crate) fn listed(list: Option<&'a [u8]>) -> Extensions<'a> {
-        Extensions { left: list.map_or(&[], contents) }
-    }
-}
-
-impl<'a> Iterator for Extensions<'a> {
-    type Item = Result<Extension<'a>, Error>;
-
-    /// The next one. After an error, which the extensions of what was read do not have, none follows.
-    fn next(&mut self) -> Option<Result<Extension<'a>, Error>> {
-        if self.left.is_empty() {
-            return None;
-        }
-        match read(sys::der_extension, self.left) {
-            Ok(place) => {
-                let (octets, left) = self.left.split_at(place.whole.length as usize);
-                self.left = left;
-                Some(Ok(Extension { octets, at: place }))
-            }
-            Err(error) => {
-                self.left = &[];
-                Some(Err(error))
-            }
-        }
     }
 }
 

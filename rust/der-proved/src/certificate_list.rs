@@ -1,7 +1,7 @@
 //! Lists of revoked certificates and their entries.
 
-use crate::place::{at, fields, if_there, optional_fields, read};
-use crate::{contents, Error, Extensions};
+use crate::place::{at, fields, if_there, items, optional_fields, read};
+use crate::{Error, Extensions};
 use der_proved_sys as sys;
 
 /// A list of revoked certificates (RFC 5280 5.1).
@@ -51,8 +51,7 @@ impl<'a> CertificateList<'a> {
 
     /// The entries, in their order.
     pub fn revoked_certificates(&self) -> RevokedCertificates<'a> {
-        let list = if_there(self.octets, self.at.revoked_certificates);
-        RevokedCertificates { left: list.map_or(&[], contents) }
+        RevokedCertificates::listed(if_there(self.octets, self.at.revoked_certificates))
     }
 
     /// The extensions, in their order.
@@ -61,32 +60,9 @@ impl<'a> CertificateList<'a> {
     }
 }
 
-/// Goes over the entries of a list.
-#[derive(Clone, Debug)]
-pub struct RevokedCertificates<'a> {
-    left: &'a [u8],
-}
-
-impl<'a> Iterator for RevokedCertificates<'a> {
-    type Item = Result<RevokedCertificate<'a>, Error>;
-
-    /// The next one. Of a list that was read none is an error.
-    fn next(&mut self) -> Option<Result<RevokedCertificate<'a>, Error>> {
-        if self.left.is_empty() {
-            return None;
-        }
-        match read(sys::der_revoked_certificate, self.left) {
-            Ok(place) => {
-                let (octets, left) = self.left.split_at(place.whole.length as usize);
-                self.left = left;
-                Some(Ok(RevokedCertificate { octets, at: place }))
-            }
-            Err(error) => {
-                self.left = &[];
-                Some(Err(error))
-            }
-        }
-    }
+items! {
+    /// Goes over the entries of a list.
+    RevokedCertificates, RevokedCertificate, der_revoked_certificate
 }
 
 /// An entry of a list (RFC 5280 5.1.2.6).

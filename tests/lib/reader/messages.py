@@ -133,6 +133,16 @@ def add_signature(rows, fields):
     rows.add(signature, "signature", texts.bits_and_digits(signature))
 
 
+def ended(rows, fields, extensions, outer):
+    """All rows, with the extensions of what is signed, behind their tag, and the signature of the whole."""
+    if extensions:
+        add_extensions(rows, extensions.only(0x30))
+    fields.close()
+    add_signature(rows, outer)
+    outer.close()
+    return rows.found
+
+
 def certificate(message):
     """RFC 5280 section 4.1."""
     rows, outer = Rows(), message.fields()
@@ -156,13 +166,7 @@ def certificate(message):
         unique = fields.option(tag)
         if unique:
             rows.add(unique, label, texts.bits_and_digits(unique))
-    more = fields.option(0xA3)
-    if more:
-        add_extensions(rows, more.only(0x30))
-    fields.close()
-    add_signature(rows, outer)
-    outer.close()
-    return rows.found
+    return ended(rows, fields, fields.option(0xA3), outer)
 
 
 def entry(encoding):
@@ -195,13 +199,7 @@ def revocation_list(message):
     revoked = fields.option(0x30)
     for item in revoked.fields().rest(0x30) if revoked else []:
         rows.add(item, "revoked", entry(item))
-    more = fields.option(0xA0)
-    if more:
-        add_extensions(rows, more.only(0x30))
-    fields.close()
-    add_signature(rows, outer)
-    outer.close()
-    return rows.found
+    return ended(rows, fields, fields.option(0xA0), outer)
 
 
 EXTENSION_REQUEST = "1.2.840.113549.1.9.14"

@@ -1,7 +1,7 @@
 """Rows of files of PKCS #12 (RFC 7292): what stands in them, as far as it is not encrypted."""
 
 from . import values
-from .cms import PKCS_7, add_content, add_content_info
+from .cms import PKCS_7, add_content, add_content_info, each_or_malformed
 from .identifiers import arcs, named
 from .keys import add_encrypted, add_plain_version, private_key
 from .messages import Rows, add_algorithm, add_attributes, certificate_row, length_row, list_row, octets_row
@@ -63,14 +63,7 @@ def add_bag(rows, bag):
     if arcs(kind) not in READERS:
         length_row(rows, value, "value", value.whole)
     else:
-        label, reader = READERS[arcs(kind)]
-        found = Rows()
-        try:
-            reader(found, value)
-        except Refused:
-            found.found = []
-            found.add(value, label, "<malformed>")
-        rows.found += found.found
+        each_or_malformed(rows, [value], *READERS[arcs(kind)])
     if attributes:
         add_attributes(rows, "attribute", attributes)
 
