@@ -3,21 +3,19 @@
 import random
 import sys
 
+from messages import tlv
+
 COUNT = 20_000
 numbers = random.Random(1)
 
 
-def encoding(tag, contents):
-    return bytes([tag, len(contents)]) + contents
-
-
 def value(name):
     if name == "bool":
-        return encoding(1, numbers.choice([b"\x00", b"\xff"]))
+        return tlv(1, numbers.choice([b"\x00", b"\xff"]))
     if name == "octets":
-        return encoding(4, numbers.randbytes(numbers.randrange(48)))
+        return tlv(4, numbers.randbytes(numbers.randrange(48)))
     tag = numbers.choice([0x02, 0x04, 0x80])
-    return encoding(tag, bytes([numbers.randrange(1, 127)]) + numbers.randbytes(numbers.randrange(20)))
+    return tlv(tag, bytes([numbers.randrange(1, 127)]) + numbers.randbytes(numbers.randrange(20)))
 
 
 for _ in range(COUNT):

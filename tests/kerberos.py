@@ -11,7 +11,7 @@ import re
 import sys
 import tempfile
 
-from lib import ROOT
+from lib import ROOT, text_of
 from lib.trials import Trials, walked
 
 PAGE = "docs/FROM_AN_RFC.md"
@@ -35,11 +35,6 @@ trials = Trials("kerberos")
 holds = trials.holds
 
 
-def text_of(path):
-    with open(path, encoding="utf-8") as it:
-        return it.read()
-
-
 def write(path, text):
     with open(path, "w", encoding="utf-8") as it:
         it.write(text)
@@ -53,12 +48,12 @@ def paged(text):
 
 
 def blocks(language):
-    return re.findall(rf"^```{language}\n(.*?)^```$", text_of(f"{ROOT}/{PAGE}"), re.S | re.M)
+    return re.findall(rf"^```{language}\n(.*?)^```$", text_of(PAGE), re.S | re.M)
 
 
 def rows():
     """The lines that the rows stand for, each with its answer; none for a line that is no row."""
-    for number, line in enumerate(text_of(f"{ROOT}/tests/kerberos/messages.rows").splitlines(), 1):
+    for number, line in enumerate(text_of("tests/kerberos/messages.rows").splitlines(), 1):
         found = ROW.fullmatch(line)
         if found:
             name, digits, cuts, answer = found.groups()
@@ -94,12 +89,12 @@ def look_at_answers(folder):
 
 def main():
     steps = "".join(blocks("sh")).partition(RUN)[0]
-    program = "".join(text_of(f"{ROOT}/tests/kerberos/{name}.txt") for name in ("main", "answer", "fields"))
+    program = "".join(text_of(f"tests/kerberos/{name}.txt") for name in ("main", "answer", "fields"))
     holds("what the page quotes stands in the program", all(it in program for it in blocks("rust")))
     answers = {answer for _, answer in rows()}
     holds("the answers on the page are those of rows", all(line in answers for it in blocks("text") for line in it.splitlines()))
     with tempfile.TemporaryDirectory(prefix="der-kerberos-") as folder:
-        write(f"{folder}/rfc4120.txt", FORM + paged(text_of(f"{ROOT}/{MODULE}")) + "\nB.  Changes since RFC 1510\n")
+        write(f"{folder}/rfc4120.txt", FORM + paged(text_of(MODULE)) + "\nB.  Changes since RFC 1510\n")
         ran, said = walked(folder, steps)
         if holds(f"the steps of {PAGE} run", ran):
             look_at_writing(f"{folder}/my_kerberos", said)

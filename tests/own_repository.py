@@ -14,7 +14,7 @@ import sys
 import tempfile
 
 sys.dont_write_bytecode = True
-from lib import ROOT, address_rows
+from lib import ROOT, address_rows, text_of
 from lib.trials import Trials, walked
 
 SECTION = "## In a repository of your own\n"
@@ -24,8 +24,7 @@ holds = trials.holds
 
 def steps():
     """The lines of the section's blocks, without those that prove: those before the last run, and that one."""
-    with open(f"{ROOT}/docs/USING.md", encoding="utf-8") as it:
-        section = it.read().split(SECTION, 1)[1]
+    section = text_of("docs/USING.md").split(SECTION, 1)[1]
     blocks = re.findall(r"^```sh\n(.*?)^```$", section, re.S | re.M)
     return re.sub(r"^rt check$", "", "".join(blocks), flags=re.M).rpartition("rt try --test\n")[:2]
 
@@ -45,11 +44,6 @@ def vendor(folder, *names):
     """The status of tools/vendor, and what it says."""
     ran = subprocess.run([f"{ROOT}/tools/vendor", folder, *names], stdout=subprocess.PIPE, stderr=subprocess.STDOUT, text=True)
     return ran.returncode, ran.stdout
-
-
-def text_of(path):
-    with open(path, encoding="utf-8") as it:
-        return it.read()
 
 
 def add_to(path, text):

@@ -15,7 +15,7 @@ import sys
 import tempfile
 import time
 
-from lib import ROOT
+from lib import ROOT, text_of
 
 BLOCK = re.compile(r"^```sh\n(.*?)^```$", re.S | re.M)
 PAGES = ("README.md", "tools/asn1/README.md", "docs/USING.md", "docs/C.md")
@@ -31,11 +31,6 @@ int main(void)
     return 0;
 }
 """
-
-
-def text_of(page):
-    with open(f"{ROOT}/{page}", encoding="utf-8") as it:
-        return it.read()
 
 
 def blocks():

@@ -4,6 +4,8 @@ import glob
 import os
 import re
 
+from . import text_of
+
 ITEM = r"(?:^(?:///|//|#\[).*\n)*^(?:pub )?(?:extern \"C\" )?(?:fn|struct|type) {name}\b"
 FOUND = " It has no proof file: the check finds the proof."
 FACADE = "der_asn1_types"
@@ -37,11 +39,6 @@ CALLERS = {
 }
 # A crate of which each file is a caller.
 OF_CALLERS = "der_examples"
-
-
-def text_of(path):
-    with open(path, encoding="utf-8") as file:
-        return file.read()
 
 
 def item_of(text, name):

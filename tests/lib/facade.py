@@ -3,17 +3,13 @@ definitions that their contracts name."""
 import glob
 import re
 
+from . import text_of
 from .quoting import quoted_of
 
 FACADE = "crates/der_asn1_types"
 USE = re.compile(r"^pub use ([\w:]+?)::(\{[^}]*\}|\w+(?: as \w+)?);", re.M)
 GHOST_USE = re.compile(r"ghost use (Rattle\.der_\w+\.specs\.[\w.]+?)(?:\.\{([^}]*)\}| as (\w+));")
 MACRO = re.compile(r"^#\[macro_export\]\nmacro_rules! (\w+) \{\n.*?^\}$", re.S | re.M)
-
-
-def text_of(path):
-    with open(path, encoding="utf-8") as file:
-        return file.read()
 
 
 def uses_of(text):

@@ -5,16 +5,11 @@ import glob
 import re
 import subprocess
 
-from . import ROOT
+from . import ROOT, text_of
 from .kept_edits import Record
 
 WORD = re.compile(r"`([\w./-]+)`")
 ROW = re.compile(r"^\| `([\w.]+)` \|.*\| ([^|]+) \|$", re.M)
-
-
-def text_of(path):
-    with open(f"{ROOT}/{path}", encoding="utf-8") as file:
-        return file.read()
 
 
 def differing(what, listed, there):

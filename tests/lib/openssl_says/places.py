@@ -5,6 +5,7 @@ import functools
 import re
 
 from . import asking
+from ..octets import tlv
 from ..reader import pem, values
 from ..reader.octets import Encoding, Refused
 
@@ -98,7 +99,7 @@ def compare_value(compared, message, field, kind, shown):
 
 
 def time_of(kind, shown):
-    octets = bytes([0x17 if kind == "UTCTIME" else 0x18, len(shown)]) + shown.encode()
+    octets = tlv(0x17 if kind == "UTCTIME" else 0x18, shown.encode())
     try:
         return values.time(Encoding(octets, 0, 2, len(octets)))
     except Refused:
