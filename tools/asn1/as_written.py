@@ -45,6 +45,7 @@ UNIVERSAL = {
     Simple.OBJECT_IDENTIFIER: 6,
     Simple.OBJECT_DESCRIPTOR: 7,
     Simple.EXTERNAL: 8,
+    Simple.REAL: 9,
     Simple.EMBEDDED_PDV: 11,
     Simple.UTF8_STRING: 12,
     Simple.RELATIVE_OID: 13,
@@ -62,9 +63,10 @@ UNIVERSAL = {
     Simple.CHARACTER_STRING: 29,
     Simple.BMP_STRING: 30,
 }
-# Types of these numbers are refused by the layer wherever they stand.
+# Types that the layer does not have.
 UNREADABLE = frozenset(
     [
+        Simple.REAL,
         Simple.OBJECT_DESCRIPTOR,
         Simple.EXTERNAL,
         Simple.EMBEDDED_PDV,

@@ -224,6 +224,7 @@ class Simple(Enum):
     OCTET_STRING = "OCTET STRING"
     UTC_TIME = "UTCTime"
     GENERALIZED_TIME = "GeneralizedTime"
+    REAL = "REAL"
     RELATIVE_OID = "RELATIVE-OID"
     UTF8_STRING = "UTF8String"
     NUMERIC_STRING = "NumericString"

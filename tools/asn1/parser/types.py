@@ -43,7 +43,6 @@ SIMPLE |= {"T61String": Simple.TELETEX_STRING, "ISO646String": Simple.VISIBLE_ST
 
 # Types that are not taken, and what to write instead.
 REFUSED = {
-    "REAL": "there is no type for REAL: write ANY, and read its contents yourself",
     "MACRO": "write the types of the macro's values out (X.208 annex A is withdrawn)",
 }
 

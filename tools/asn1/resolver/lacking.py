@@ -1,4 +1,4 @@
-"""Types whose universal tags the layer refuses, as the crate `der` does: what has one can't be read."""
+"""Types that the layer does not have: but for REAL it refuses their universal tags, as the crate `der` does."""
 
 from __future__ import annotations
 
@@ -26,6 +26,7 @@ from .context import Context
 LACKING = {
     Simple.OBJECT_DESCRIPTOR: 7,
     Simple.EXTERNAL: 8,
+    Simple.REAL: 9,
     Simple.EMBEDDED_PDV: 11,
     Simple.GRAPHIC_STRING: 25,
     Simple.UNIVERSAL_STRING: 28,
@@ -79,6 +80,8 @@ def kept(context: Context, place: Place, simple: Simple) -> Leaf:
 
 
 def refuse(place: Place, simple: Simple) -> None:
+    if simple is Simple.REAL:
+        raise AsnError(place, "there is no type for REAL", "write ANY, and read its contents octets yourself")
     raise AsnError(
         place,
         f"there is no type for {simple.value}: its tag [UNIVERSAL {LACKING[simple]}] is refused (5)",

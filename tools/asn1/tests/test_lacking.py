@@ -51,7 +51,7 @@ class Lacking(unittest.TestCase):
         self.assertIn("there is no type for GraphicString: its tag [UNIVERSAL 25] is refused (5)", str(error))
 
     def test_each_of_these_types(self) -> None:
-        for text in ("EXTERNAL", "EMBEDDED PDV", "CHARACTER STRING", "GraphicString", "UniversalString", "ObjectDescriptor"):
+        for text in ("REAL", "EXTERNAL", "EMBEDDED PDV", "CHARACTER STRING", "GraphicString", "UniversalString", "ObjectDescriptor"):
             with self.subTest(text):
                 self.assertEqual(remarks(f"A ::= {text}"), [f"2:1 'A' is not written: the layer has no {text}"])
 

@@ -30,7 +30,7 @@ BODIES = [
     ("5 ::= INTEGER", "", "2:1", "'5' stands where an assignment is expected"),
     ("A ::= CLASS { id INTEGER }", "", "2:15", "'id' stands where the name of a field is expected"),
     # ---- types
-    ("A ::= REAL", "", "2:7", "REAL is not taken"),
+    ("A ::= SEQUENCE { a REAL }", "", "2:20", "there is no type for REAL"),
     ("A ::= SET OF EXTERNAL", "", "2:14", "there is no type for EXTERNAL: its tag [UNIVERSAL 8]"),
     ("A ::= SET OF EMBEDDED PDV", "", "2:14", "there is no type for EMBEDDED PDV"),
     ("A ::= SET OF CHARACTER STRING", "", "2:14", "there is no type for CHARACTER STRING"),
