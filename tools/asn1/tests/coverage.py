@@ -4,7 +4,8 @@
     python3 tools/asn1/tests/coverage.py FOLDER.. > table.md
 
 Each type is resolved by itself, so that one refusal does not hide another; a type is refused, too, where one that it names is. A
-module is sought in the folder of the file that imports from it, then in its source, then in the other sources.
+module is sought in the folder of the file that imports from it, then in its source, then in the other sources. The last columns
+count what X.680 allows: they leave out the modules and types that are refused for a reason of `NOT_ALLOWED` (`reasons.py`).
 """
 
 from __future__ import annotations
@@ -23,7 +24,7 @@ from asn1.resolver.context import State  # noqa: E402
 from asn1.resolver.modules import define_type, is_written, resolved  # noqa: E402
 from asn1.scope import Library, Scope, imported_by, scope_of  # noqa: E402
 from asn1.syntax import TypeAssignment  # noqa: E402
-from asn1.tests.reasons import kind_of, name_in  # noqa: E402
+from asn1.tests.reasons import NOT_ALLOWED, kind_of, name_in  # noqa: E402
 from asn1.tests.tolerant import Reading, Span, readings_of  # noqa: E402
 
 SUFFIXES = (".asn1", ".asn")
@@ -54,6 +55,17 @@ class Result:
     @property
     def is_whole(self) -> bool:
         return not self.reasons and not self.errors
+
+    @property
+    def is_allowed(self) -> bool:
+        """Whether X.680 allows the module, with those that it imports from."""
+        kinds = {kind for kind, _ in self.reasons} | set(self.errors)
+        return self.has_imports and not kinds & NOT_ALLOWED
+
+    @property
+    def allowed(self) -> int:
+        """How many of the types X.680 allows."""
+        return self.types - sum(kind in NOT_ALLOWED for kind, _ in self.reasons)
 
 
 # ---- reading
@@ -199,14 +211,18 @@ def row(name: str, results: list[Result]) -> str:
         types, taken = sum(one.types for one in some), sum(one.taken for one in some)
         cells += [str(len(some))] if some is there else []
         cells += [f"{whole} ({share(whole, len(some))})", str(types), share(taken, types)]
+    allowed = [one for one in typed if one.is_allowed]
+    whole, types = sum(one.is_whole for one in allowed), sum(one.allowed for one in typed)
+    cells += [str(len(allowed)), f"{whole} ({share(whole, len(allowed))})", str(types), share(sum(one.taken for one in typed), types)]
     return f"| {' | '.join(cells)} |"
 
 
 def table(found: dict[str, list[Result]]) -> list[str]:
     """A line a source, and the sum."""
     lines = [
-        "| Source | modules | with types | whole | types | taken | imports there | of these whole | types | taken |",
-        "|---|---|---|---|---|---|---|---|---|---|",
+        "| Source | modules | with types | whole | types | taken | imports there | of these whole | types | taken "
+        "| allowed by X.680 | of these whole | types | taken |",
+        "|---|---|---|---|---|---|---|---|---|---|---|---|---|---|",
     ]
     lines += [row(name, results) for name, results in found.items()]
     return lines + [row("**all**", [one for results in found.values() for one in results])]

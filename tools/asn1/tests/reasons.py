@@ -49,6 +49,32 @@ KINDS = [
     (r"is expected", "syntax"),
 ]
 
+# What X.680 and its siblings refuse themselves, or what lies outside of the module.
+NOT_ALLOWED = frozenset(
+    [
+        "COMPONENTS OF of no such type",
+        "IMPLICIT before a CHOICE or an open type",
+        "a module that is not there",
+        "assigned nowhere",
+        "assigned twice",
+        "class or type of another kind",
+        "exported, and assigned nowhere",
+        "imported from two modules",
+        "lexical item",
+        "module assigns no such name",
+        "module does not export the name",
+        "name or number stands twice",
+        "number of an addition",
+        "object identifier value",
+        "parameters",
+        "selection from no such CHOICE",
+        "syntax",
+        "tag of the class UNIVERSAL",
+        "tags not distinct",
+        "value of another kind",
+    ]
+)
+
 
 def kind_of(error: Exception) -> str:
     """The kind of an error; what is none of the compiler's errors is a traceback."""

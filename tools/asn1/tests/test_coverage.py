@@ -56,7 +56,7 @@ class Coverage(unittest.TestCase):
 
     def test_the_table_counts(self) -> None:
         found = {"some": self.results(MODULE.encode())}
-        self.assertEqual(coverage.table(found)[2], "| some | 1 | 1 | 0 (0.0 %) | 7 | 28.6 % | 0 | 0 (-) | 0 | - |")
+        self.assertEqual(coverage.table(found)[2], "| some | 1 | 1 | 0 (0.0 %) | 7 | 28.6 % | 0 | 0 (-) | 0 | - | 0 | 0 (-) | 4 | 50.0 % |")
         self.assertIn("| REAL | 2 | 1 | 0 | 0 |", coverage.reasons(found))
 
 
