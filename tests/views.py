@@ -22,6 +22,7 @@ sys.dont_write_bytecode = True
 from lib import broken, documents, hand_made, irregular, labels, programs, rare
 
 CRATE = f"{programs.ROOT}/crates/certview"
+TESTS = f"{programs.ROOT}/crates/programs_tests/src/tests/certview"
 CERTIFICATE = open(f"{CRATE}/stdin", "rb").read()
 SHOWN = open(f"{CRATE}/stdout", "rb").read()
 wrong = []
@@ -33,8 +34,8 @@ def fail(text):
 
 
 def message(name):
-    """The octets of a message of the crate's tests."""
-    text = open(f"{CRATE}_tests/src/tests/messages.rt").read()
+    """The octets of a message of the tests."""
+    text = open(f"{TESTS}/messages.rt").read()
     return bytes.fromhex(re.search(rf'{name}: &str =\s*"([0-9a-f]+)"', text)[1])
 
 
@@ -360,7 +361,7 @@ def name_all_fields(program, names):
 
 def all_messages():
     """Messages of all kinds."""
-    found = [text for path in sorted(glob.glob(f"{CRATE}_tests/src/tests/*.rt")) for text in hexadecimal_of(path)]
+    found = [text for path in sorted(glob.glob(f"{TESTS}/*.rt")) for text in hexadecimal_of(path)]
     unique = hand_made.certificate(version=b"\xa0\x03\x02\x01\x01", unique=b"\x81\x02\x00a\x82\x02\x00b")[0]
     others = [octets for octets, _ in rare.rows()] + [octets for _, _, octets, _, _ in irregular.rows()]
     return [*map(bytes.fromhex, found), hand_made.certificate(outer=hand_made.OUTER)[0], unique, trusted()[0], *others]

@@ -1,8 +1,0 @@
-//! Tests of the messages of `der_ocsp`, `der_cms` and `der_pkcs`: octets that OpenSSL wrote.
-//!
-//! They stand in a crate of their own, since a crate with tests is proved twice, with and without
-//! them.
-#![tactic(auto)]
-
-#[cfg(test)]
-mod tests;

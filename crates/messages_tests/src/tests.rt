@@ -1,0 +1,97 @@
+//! The tests of each topic, and the functions that they share.
+
+mod build;
+mod callers;
+mod enveloped;
+mod examples;
+mod messages;
+mod pkcs;
+mod pkix;
+mod places;
+mod shapes;
+mod signed;
+mod tables;
+mod verify;
+
+use der_asn1_types::{DerOrd, Duplicate, Encode, Error, FromDer};
+use std::alloc::Global;
+use std::cmp::Ordering;
+use std::fmt::Debug;
+use std::process::Abort;
+
+/// Asserts that what was found is what is wanted.
+///
+/// The proof of a test takes an assertion in its own body with all that stands before it; so
+/// assertions stand in functions of their own, and each is proved once.
+fn same<T: PartialEq + Debug + Drop>(rt: &impl Abort, found: T, wanted: T) {
+    assert_eq!(rt; found, wanted);
+}
+
+/// The same in one of several cases, which is told where it fails.
+fn same_in<C: Debug, T: PartialEq + Debug + Drop>(rt: &impl Abort, case: &C, found: T, wanted: T) {
+    assert_eq!(rt; found, wanted, "{case:?}");
+}
+
+/// Asserts that the condition holds.
+fn holds(rt: &impl Abort, condition: bool) {
+    assert!(rt; condition);
+}
+
+/// Puts another octet in a place.
+fn put(rt: &impl Abort, octets: &mut Vec<u8>, place: usize, octet: u8) {
+    assert!(rt; place < octets.len());
+    octets[place] = octet;
+}
+
+/// What was found, or the number of why it was not.
+fn numbered<T>(found: Result<T, Error>) -> Result<T, u8> {
+    match found {
+        Ok(value) => Ok(value),
+        Err(e) => Err(e.kind().number()),
+    }
+}
+
+/// The encoding of what the octets are read as, or the number of the refusal.
+fn again<'a, T: FromDer<'a> + Encode>(alloc: Global, octets: &'a [u8]) -> Result<Vec<u8>, u8> {
+    match T::from_der(alloc, octets) {
+        Ok(value) => numbered(value.to_der(alloc)),
+        Err(e) => Err(e.kind().number()),
+    }
+}
+
+/// The octets in room of their own, or the number of no memory.
+fn copied(alloc: Global, octets: &[u8]) -> Result<Vec<u8>, u8> {
+    match Vec::from_slice(alloc, octets) {
+        Ok(octets) => Ok(octets),
+        Err(_) => Err(1),
+    }
+}
+
+/// The order of two values, and whether they are equal.
+fn compared<T: DerOrd + PartialEq>(first: &T, second: &T) -> Result<(Ordering, bool), u8> {
+    match first.der_cmp(second) {
+        Ok(order) => Ok((order, first == second)),
+        Err(e) => Err(e.kind().number()),
+    }
+}
+
+/// The order of the values that two encodings have, and whether they are equal.
+fn read_and_compared<'a, T: FromDer<'a> + DerOrd + PartialEq>(
+    alloc: Global,
+    first: &'a [u8],
+    second: &'a [u8],
+) -> Result<(Ordering, bool), u8> {
+    match (T::from_der(alloc, first), T::from_der(alloc, second)) {
+        (Ok(first), Ok(second)) => compared(&first, &second),
+        (Err(e), _) => Err(e.kind().number()),
+        (Ok(_), Err(e)) => Err(e.kind().number()),
+    }
+}
+
+/// Whether a copy is equal to what it is of.
+fn is_copied<T: Duplicate + PartialEq>(value: &T) -> bool {
+    match value.duplicate() {
+        Ok(copy) => copy == *value,
+        Err(_) => false,
+    }
+}

@@ -1,0 +1,23 @@
+//! Values of each shape, read and written back, and octets that are refused.
+
+mod constrained;
+mod defaults;
+mod empty;
+mod fields;
+mod lists;
+mod ordering;
+mod owning;
+mod reading;
+mod refusing;
+mod simple;
+
+use crate::tests::numbered;
+use der_tlv::Error;
+
+// The item of a list, or the number of why there is none: 0 where the list is too short.
+fn item<T>(found: Option<Result<T, Error>>) -> Result<T, u8> {
+    match found {
+        Some(item) => numbered(item),
+        None => Err(0),
+    }
+}

@@ -1,0 +1,5 @@
+//! Tests of what the programs `derview` and `certview` do.
+#![tactic(auto)]
+
+#[cfg(test)]
+mod tests;
