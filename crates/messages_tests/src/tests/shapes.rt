@@ -8,6 +8,7 @@ mod lists;
 mod ordering;
 mod owning;
 mod reading;
+mod recursion;
 mod refusing;
 mod simple;
 
