@@ -84,8 +84,8 @@ fn filters_within_a_filter_are_read_when_they_are_asked_for(rt: HostRuntime) -> 
 #[test]
 fn what_is_kept_is_not_looked_at(rt: HostRuntime) -> Result<(), Fail> {
     let alloc = rt.alloc();
-    // no encoding; two filters that are out of order
-    for (digits, number) in [("a001ff", 6), ("a006820162820161", 11)] {
+    // half a tag; two filters that are out of order
+    for (digits, number) in [("a001ff", 2), ("a006820162820161", 11)] {
         let octets = hex::decode(alloc, digits)?;
         let filter = numbered(Filter::from_der(alloc, octets.as_slice()))?;
         match SetRef::<Filter>::new(alloc, kept(&filter)?) {
