@@ -110,6 +110,11 @@ def fields(library: Library, env: Env, type_: FieldsType) -> list[Part]:
     return sorted(parts, key=lambda part: tag_of(library, part)) if type_.is_set else parts
 
 
+def keeps_additions(type_: FieldsType) -> bool:
+    """Whether the elements after the components are kept: `@skip` stands after '...'."""
+    return any(note.name == "skip" for note in type_.marker_notes)
+
+
 def components(library: Library, env: Env, type_: FieldsType) -> list[Part]:
     """The components in the order of the text, those of COMPONENTS OF in its place (25.5)."""
     parts: list[Part] = []

@@ -257,6 +257,7 @@ class Struct(Definition):
     declared: tuple[Field, ...] = ()  # in the order in which they are written
     tag: Tag | None = None  # in place of that of SEQUENCE or SET
     is_holder: bool = False  # of a value and the explicit tag before it: no user meets it
+    has_additions: bool = False  # the elements after the last field are kept (`@skip`)
 
 
 @dataclass(eq=False)

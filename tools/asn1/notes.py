@@ -18,6 +18,7 @@ KNOWN: dict[str, tuple[str | None, str]] = {
     "any_order": (None, "the items of a SET OF stand in the order in which they came"),
     "unchecked": (None, "the values that a constraint excludes are read"),
     "unread": (None, "it is not read, and its octets are kept"),
+    "skip": (None, "elements that the module does not have are kept, after a SEQUENCE's '...'"),
     "name": (r"[A-Za-z][A-Za-z0-9_]*", "its name in Rattle"),
     "type": (r"[A-Z][A-Za-z0-9]*", "the name in Rattle of the type that is written out here"),
     "omit": (None, "it is not written"),

@@ -167,6 +167,7 @@ class Properties:
 
 
 NOTHING = Properties(borrows=False, takes_memory=False, is_copy=True)
+ADDITIONS = Properties(borrows=True, takes_memory=False, is_copy=True)
 
 
 def properties_of(type_: Resolved) -> Properties:
@@ -193,6 +194,7 @@ def properties_of_definition(definition: Definition) -> Properties:
         return properties_of(definition.listed)
     found = NOTHING
     if isinstance(definition, Struct):
+        found = ADDITIONS if definition.has_additions else NOTHING
         for part in definition.fields:
             found += properties_of(part.type)
     if isinstance(definition, Choice):

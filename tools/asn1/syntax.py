@@ -276,6 +276,7 @@ class EnumeratedType:
     place: Place
     named: tuple[NamedNumber, ...]
     extensible: bool
+    marker_notes: tuple[Annotation, ...] = ()  # the annotations after its '...'
 
 
 @dataclass(frozen=True)
@@ -310,6 +311,8 @@ class FieldsType:
     components: tuple[Union[Component, ComponentsOf], ...]
     extensible: bool
     is_instance: bool = False  # it is INSTANCE OF (X.681 annex C), whose own tag is [UNIVERSAL 8]
+    marker_notes: tuple[Annotation, ...] = ()  # the annotations after its '...'
+    root_resumes: bool = False  # components of the root stand after a second '...' (25.1)
 
 
 @dataclass(frozen=True)
@@ -317,6 +320,7 @@ class ChoiceType:
     place: Place
     alternatives: tuple[Component, ...]
     extensible: bool
+    marker_notes: tuple[Annotation, ...] = ()  # the annotations after its '...'
 
 
 @dataclass(frozen=True)

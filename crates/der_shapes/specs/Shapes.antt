@@ -6,6 +6,7 @@ pub mod Color
 pub mod Counted
 pub mod DefaultLaws
 pub mod Described
+pub mod Extensible
 pub mod Filter
 pub mod General
 pub mod Grammar
@@ -24,4 +25,5 @@ pub mod Ordered
 pub mod Pair
 pub mod Status
 pub mod Subtree
+pub mod Titled
 pub mod Unordered

@@ -5,8 +5,8 @@ from __future__ import annotations
 from dataclasses import replace
 
 from ..errors import AsnError, Place
-from ..lexer import Kind
-from ..syntax import Component, ComponentsOf, FieldsType
+from ..lexer import Annotation, Kind
+from ..syntax import ChoiceType, Component, ComponentsOf, FieldsType
 from .cursor import Cursor
 from . import constraints, types
 from .values import parse_value
@@ -20,6 +20,13 @@ class Listed:
     def __init__(self) -> None:
         self.components: list[Component | ComponentsOf] = []
         self.markers = 0
+        self.marker_notes: list[Annotation] = []
+        self.root_resumes = False  # a component stands after the second '...' (25.1)
+
+    def add(self, part: Component | ComponentsOf) -> None:
+        """The next component."""
+        self.components.append(part)
+        self.root_resumes |= self.markers > 1
 
     @property
     def in_additions(self) -> bool:
@@ -30,17 +37,21 @@ class Listed:
 def parse_fields(cursor: Cursor, place: Place, is_set: bool) -> FieldsType:
     """`{ name Type OPTIONAL, name Type DEFAULT value, .. }`."""
     listed = parse_braces(cursor, is_choice=False)
-    return FieldsType(place, is_set, tuple(listed.components), listed.markers > 0 or cursor.is_extensible)
+    is_extensible = listed.markers > 0 or cursor.is_extensible
+    notes = tuple(listed.marker_notes)
+    return FieldsType(
+        place, is_set, tuple(listed.components), is_extensible, marker_notes=notes, root_resumes=listed.root_resumes
+    )
 
 
-def parse_alternatives(cursor: Cursor) -> tuple[tuple[Component, ...], bool]:
+def parse_alternatives(cursor: Cursor, of: Place) -> ChoiceType:
     """`{ name Type, .. }`."""
     place = cursor.place
     listed = parse_braces(cursor, is_choice=True)
     alternatives = tuple(part for part in listed.components if isinstance(part, Component))
     if not alternatives:
         raise AsnError(place, "this CHOICE has no alternative", "write at least one (X.680 29.1)")
-    return alternatives, listed.markers > 0
+    return ChoiceType(of, alternatives, listed.markers > 0 or cursor.is_extensible, tuple(listed.marker_notes))
 
 
 def parse_braces(cursor: Cursor, is_choice: bool) -> Listed:
@@ -60,14 +71,15 @@ def parse_braces(cursor: Cursor, is_choice: bool) -> Listed:
 
 def parse_one(cursor: Cursor, listed: Listed, is_choice: bool) -> None:
     """One component, a marker, or a group of additions, with the comma after it."""
-    if cursor.take("..."):
+    if cursor.sees("..."):
         parse_marker(cursor, listed)
-    elif cursor.take("[["):
+        return
+    if cursor.take("[["):
         parse_group(cursor, listed, is_choice)
     elif cursor.sees("COMPONENTS"):
         parse_components_of(cursor, listed, is_choice)
     else:
-        listed.components.append(parse_component(cursor, listed.in_additions, is_choice))
+        listed.add(parse_component(cursor, listed.in_additions, is_choice))
         return
     take_comma(cursor)
 
@@ -82,9 +94,13 @@ def take_comma(cursor: Cursor) -> None:
 
 
 def parse_marker(cursor: Cursor, listed: Listed) -> None:
-    """`...`, perhaps with an exception (53)."""
-    constraints.take_exception(cursor)
+    """`...`, perhaps with an exception (53), and the comma after it."""
+    with cursor.collecting() as annotations:
+        cursor.next()
+        constraints.take_exception(cursor)
+        take_comma(cursor)
     listed.markers += 1
+    listed.marker_notes += annotations
 
 
 def parse_group(cursor: Cursor, listed: Listed, is_choice: bool) -> None:
@@ -95,7 +111,7 @@ def parse_group(cursor: Cursor, listed: Listed, is_choice: bool) -> None:
     while not cursor.take("]]"):
         if cursor.peek().kind is Kind.END:
             cursor.fail("the end of the file stands where ']]' is expected", "close the group of additions")
-        listed.components.append(parse_component(cursor, True, is_choice))
+        listed.add(parse_component(cursor, True, is_choice))
 
 
 def parse_components_of(cursor: Cursor, listed: Listed, is_choice: bool) -> None:
@@ -107,7 +123,7 @@ def parse_components_of(cursor: Cursor, listed: Listed, is_choice: bool) -> None
     cursor.expect("OF", "write 'COMPONENTS OF Type'")
     if is_choice:
         raise AsnError(place, "COMPONENTS OF stands in a CHOICE", "write the alternatives out")
-    listed.components.append(ComponentsOf(place, types.parse_type(cursor)))
+    listed.add(ComponentsOf(place, types.parse_type(cursor)))
 
 
 def parse_component(cursor: Cursor, is_addition: bool, is_choice: bool) -> Component:

@@ -5,7 +5,7 @@ from __future__ import annotations
 from collections.abc import Callable
 
 from ..errors import Place
-from ..lexer import Kind
+from ..lexer import Annotation, Kind
 from ..syntax import (
     Actual,
     AnyType,
@@ -255,14 +255,12 @@ def parse_enumerated(cursor: Cursor, place: Place) -> EnumeratedType:
     instead = "write 'ENUMERATED { first(0), second(1) }'"
     cursor.expect("{", instead)
     named: list[NamedNumber] = []
-    extensible = False
+    extensible, notes = False, tuple[Annotation, ...]()
     while not named or cursor.take(","):
         if cursor.sees("..."):
             if extensible:
                 cursor.fail("'...' stands here a second time", "leave it out (X.680 20.1)")
-            cursor.next()
-            constraints.take_exception(cursor)
-            extensible = True
+            extensible, notes = True, parse_marker(cursor)
             continue
         token = cursor.expect_kind(Kind.LOWER, "a name", instead)
         number = None
@@ -271,12 +269,19 @@ def parse_enumerated(cursor: Cursor, place: Place) -> EnumeratedType:
             cursor.expect(")", instead)
         named.append(NamedNumber(token.place, token.text, number, extensible))
     cursor.expect("}", instead)
-    return EnumeratedType(place, tuple(named), extensible or cursor.is_extensible)
+    return EnumeratedType(place, tuple(named), extensible or cursor.is_extensible, notes)
+
+
+def parse_marker(cursor: Cursor) -> tuple[Annotation, ...]:
+    """`...` of an ENUMERATED, perhaps with an exception (53): the annotations after it, and after its comma."""
+    with cursor.collecting() as annotations:
+        cursor.next()
+        constraints.take_exception(cursor)
+    return (*annotations, *(cursor.peek().annotations if cursor.sees(",") else ()))
 
 
 def parse_choice(cursor: Cursor, place: Place) -> ChoiceType:
-    alternatives, extensible = components.parse_alternatives(cursor)
-    return ChoiceType(place, alternatives, extensible or cursor.is_extensible)
+    return components.parse_alternatives(cursor, place)
 
 
 def parse_sequence(cursor: Cursor, place: Place) -> Type:

@@ -91,6 +91,8 @@ def value_of(context: Context, env: Env, value: Value, type_: Resolved) -> Defau
         refuse(value.place, "a type of '@rust'")
     if isinstance(definition, Enumeration):
         return of_enumeration(value, definition)
+    if isinstance(definition, Struct) and definition.has_additions:
+        refuse(value.place, "a SEQUENCE with '@skip'")
     if isinstance(definition, Struct):
         return of_struct(context, env, value, definition)
     if isinstance(definition, Choice):

@@ -11,6 +11,7 @@ from ..model import (
     Choice,
     Definition,
     Enumeration,
+    Field,
     List,
     Named,
     Origin,
@@ -39,6 +40,7 @@ from ..syntax import (
 from ..tagging import alternatives
 from ..values import enumeration_of
 from . import types
+from .additions import check_call, has_additions, refuse_skip
 from .classes import bind, has_type_parameter
 from .components import alternatives_of, check_spelling, fields_of
 from .context import DEEPEST, Context, State, too_deep
@@ -167,10 +169,8 @@ def plain(context: Context, name: str, text: str, base: Type, tag: Tag | None, c
         if base.is_instance and tag is None:
             instead = "write an implicit tag before it, where it stands, as '[0] IMPLICIT INSTANCE OF ..'"
             raise AsnError(base.place, "INSTANCE OF with its own tag, [UNIVERSAL 8], is not taken", instead)
-        if base.extensible:
-            context.remark(base.place, "'...': fields that this module does not have are refused")
-        fields, declared = fields_of(context, base)
-        return Struct(*about, is_set=base.is_set, fields=fields, declared=declared, tag=tag)
+        fields, declared, keeps = fields_and_additions(context, base)
+        return Struct(*about, is_set=base.is_set, fields=fields, declared=declared, tag=tag, has_additions=keeps)
     if isinstance(base, ChoiceType):
         remark_on_extensions(context, base)
         return Choice(*about, alternatives=alternatives_of(context, base))
@@ -180,6 +180,8 @@ def plain(context: Context, name: str, text: str, base: Type, tag: Tag | None, c
         any_order = types.is_any_order(context, base)
         return List(*about, item=item, is_set=base.is_set, is_never_empty=never_empty, is_any_order=any_order, tag=tag)
     assert isinstance(base, EnumeratedType)
+    why = "a number that has no name is the whole value; INTEGER in its place has all numbers"
+    refuse_skip(base.marker_notes, "an ENUMERATED", why)
     values = enumeration_of(context.state.library, context.env, base.named)
     if not all(abs(number) < 2**63 for number in values.values()):
         raise AsnError(base.place, "an ENUMERATED with numbers of 64 bits is not taken", "write INTEGER in its place")
@@ -189,8 +191,21 @@ def plain(context: Context, name: str, text: str, base: Type, tag: Tag | None, c
     return Enumeration(*about, values=named, is_extensible=base.extensible, tag=tag)
 
 
+def fields_and_additions(context: Context, base: FieldsType) -> tuple[tuple[Field, ...], tuple[Field, ...], bool]:
+    """The fields, in the order of their encodings and as they are written, and whether the elements after them are kept."""
+    keeps = has_additions(base)
+    if base.extensible and not keeps:
+        context.remark(base.place, "'...': fields that this module does not have are refused")
+    fields, declared = fields_of(context, base)
+    if keeps:
+        check_call(fields)
+    return fields, declared, keeps
+
+
 def remark_on_extensions(context: Context, base: ChoiceType) -> None:
     """Says of a CHOICE with '...' that alternatives may come."""
+    why = "an alternative that the module does not have is the whole value, and nothing of it is known"
+    refuse_skip(base.marker_notes, "a CHOICE", f"{why}; ANY in its place keeps any value")
     if base.extensible:
         context.remark(base.place, "'...': alternatives that this module does not have are refused")
 

@@ -25,7 +25,8 @@ def signature(definition: Definition) -> str:
     """A definition in one line, with no names of types but those of other definitions."""
     if isinstance(definition, Struct):
         fields = ", ".join(field_signature(part) for part in definition.fields)
-        return f"{'SET' if definition.is_set else 'SEQUENCE'} {definition.tag} {{{fields}}}"
+        end = " ..." if definition.has_additions else ""
+        return f"{'SET' if definition.is_set else 'SEQUENCE'} {definition.tag} {{{fields}{end}}}"
     if isinstance(definition, Choice):
         return f"CHOICE {{{', '.join(field_signature(part) for part in definition.alternatives)}}}"
     if isinstance(definition, List):

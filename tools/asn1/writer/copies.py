@@ -151,11 +151,11 @@ class Copies:
             copies = f"({self.word('default_copies')} {form} {copies} (λ x. x.value) {self.default(part)})"
         return self.member_copies(type_, self.first_of_field(part), copies, rest)
 
-    def list_copies(self, fields: tuple[Field, ...]) -> str:
-        """The copies of a list of fields."""
-        found = self.word("no_copies")
+    def list_copies(self, fields: tuple[Field, ...], end: str = "no_copies") -> str:
+        """The copies of a list of fields, and of what stands after them."""
+        found = self.word(end)
         if len(fields) > AT_ONCE:
-            found = f"({self.word('part_copies')} (λ x. x.list) {self.list_copies(fields[AT_ONCE:])})"
+            found = f"({self.word('part_copies')} (λ x. x.list) {self.list_copies(fields[AT_ONCE:], end)})"
         for part in reversed(fields[:AT_ONCE]):
             found = self.member_of_copies(part, found)
         return found

@@ -118,7 +118,8 @@ def write_definition(plan: Plan, definition: Definition) -> str:
 
 def write_page(plan: Plan, definition: Definition) -> str | None:
     if isinstance(definition, Struct):
-        return None if definition.is_holder or not definition.fields else write_struct_page(plan, definition)
+        has_page = not definition.is_holder and (definition.fields or definition.has_additions)
+        return write_struct_page(plan, definition) if has_page else None
     if isinstance(definition, Choice):
         return write_choice_page(plan, definition)
     if isinstance(definition, List):

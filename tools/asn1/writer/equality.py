@@ -42,11 +42,11 @@ def choice_of(source: Source, type_: str) -> str:
 # ---- a list of fields
 
 
-def listed(source: Source, fields: tuple[Field, ...]) -> str:
-    """The equality of a list of fields, a line each."""
-    found = source.word("no_fields")
+def listed(source: Source, fields: tuple[Field, ...], end: str = "no_fields") -> str:
+    """The equality of a list of fields, a line each, and of what stands after them."""
+    found = source.word(end)
     if len(fields) > AT_ONCE:
-        found = f"({source.word('part')} (λ v. v.list){BREAK}{listed(source, fields[AT_ONCE:])})"
+        found = f"({source.word('part')} (λ v. v.list){BREAK}{listed(source, fields[AT_ONCE:], end)})"
     for field in reversed(fields[:AT_ONCE]):
         found = f"({line(source, field)}{BREAK}{found})"
     return found

@@ -16,13 +16,14 @@ TAIL = ".list" + ".rest" * AT_ONCE  # where the fields after those stand
 LOCALS = frozenset(["copy_of", "fields", "first", "list", "rest", "result", "tail"])
 
 
-def list_type(source: Source, types: list[str]) -> str:
-    """The list of these fields: of none its end, of up to eight in one step, and with the others after them."""
+def list_type(source: Source, types: list[str], end: str = "") -> str:
+    """The list of these fields: of none its end, of up to eight in one step, and with the others after them. `end` is the type
+    of what stands after the last field, where that is not the end."""
     if not types:
-        return source.use("End")
+        return end or source.use("End")
     head, tail = types[:AT_ONCE], types[AT_ONCE:]
     name = source.use(f"Fields{len(head)}")
-    following = [list_type(source, tail)] if tail else []
+    following = [list_type(source, tail, end)] if tail or end else []
     return f"{name}<{', '.join(head + following)}>"
 
 
@@ -34,6 +35,12 @@ def places(count: int) -> list[str]:
 def place_within(index: int) -> str:
     """Where a field stands in the part of the list that has it."""
     return ".list" + ".rest" * (index % AT_ONCE) + ".first"
+
+
+def place_after(count: int) -> str:
+    """Where the list after so many fields stands."""
+    last = count - 1
+    return TAIL * (last // AT_ONCE) + ".list" + ".rest" * (last % AT_ONCE + 1) if count else ""
 
 
 def is_written(type_: Resolved) -> bool:

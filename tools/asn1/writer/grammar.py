@@ -49,7 +49,7 @@ from ..values import number_of
 from .alternatives import halves
 from .constraints import allowed_term
 from .default_page import CLASSES, DefaultTerms
-from .names import ASN1, CONSTRAINT_WORDS, LISTS, PARSES, WORDS
+from .names import ADDITIONS, ASN1, CONSTRAINT_WORDS, LISTS, PARSES, WORDS
 from .plan import Plan
 from .source import Page
 from .types import CHARACTERS, closed
@@ -60,7 +60,7 @@ LIBRARY = frozenset(
     | {name for _, _, name in PARSES.values()}
     | set(CLASSES.values())
     | set(CONSTRAINT_WORDS)
-    | set("any_of end explicit_encoding field implicit_encoding joined one optional parse_of unless_default".split())
+    | set("any_of end explicit_encoding field implicit_encoding joined joined_before octets_of one optional parse_of unless_default".split())
 )
 
 
@@ -179,7 +179,8 @@ class GrammarPage:
                 lines.append(f"{self.asn1('DEFAULT')} ({default}) {closed(inner)}")
             else:
                 lines.append(f"{self.asn1('field')} {closed(inner)}")
-        return "".join(f"\n    ({line}" for line in lines) + f"\n    {self.asn1('end')}" + ")" * len(lines)
+        end = self.page.from_module(ADDITIONS, "ADDITIONS") if as_written.keeps_additions(type_) else self.asn1("end")
+        return "".join(f"\n    ({line}" for line in lines) + f"\n    {end}" + ")" * len(lines)
 
     def component(self, part: Part, type_: Resolved) -> str:
         """The type of a component, with its automatic tag if the module gives it one (25.7, 29.2)."""

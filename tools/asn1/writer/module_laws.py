@@ -13,7 +13,7 @@ from . import docs
 from .fields import Member, members_of
 from .grammar import CLASSES, word_of
 from .equality import named
-from .names import ASN1
+from .names import ADDITIONS, ADDITIONS_OF, ASN1
 from .plan import Plan
 from .source import Source
 from .types import default_type, enumeration_of, lifetime_of, rust_type
@@ -80,15 +80,11 @@ def octets_law(source: Source, struct: Struct) -> str:
     target = source.target
     name = snake(struct.rust)
     words = f"{name}_fields"
-    source.page_word(ASN1, "joined")
-    source.word("[]")
-    if struct.fields:
+    if struct.fields or struct.has_additions:
         source.page_word(f"{target.crate}.specs.{target.page}.{struct.rust} as {words}", "")
-        source.word("∷")
-    octets = [member_octets(source, member, f"({words}.{name} v)") for name, member in members_as_written(struct)]
-    listed = "\n        ∷ ".join([*octets, "[]"])
     contents = f"⟦<{type_} as {source.use('FormValue')}>⟧.{source.member('value')}.{source.member('contents')} v"
-    head = docs.doc(f"The contents octets of `{struct.name}` are the encodings of its fields, one after another.")
+    others = ", and then the elements after them" if struct.has_additions else ""
+    head = docs.doc(f"The contents octets of `{struct.name}` are the encodings of its fields, one after another{others}.")
     logic = source.logic_name(struct)
     path = "::".join("crate" if part == target.crate else part for part in ASN1.split("."))
     has_held = any(member.is_optional and member.way for member in members_of(struct))
@@ -96,8 +92,20 @@ def octets_law(source: Source, struct: Struct) -> str:
     return (
         f"{head}\n{lemma}"
         f"pub fn octets_of_{name}{lifetime}()\n"
-        f"    ensures {{ (v : {logic}) → {contents} ≡ joined (\n        {listed}) }}\n{{}}"
+        f"    ensures {{ (v : {logic}) → {contents} ≡ {all_octets(source, struct, words)} }}\n{{}}"
     )
+
+
+def all_octets(source: Source, struct: Struct, words: str) -> str:
+    """The encodings of the fields, and then the elements after them, if these are kept."""
+    octets = [member_octets(source, member, f"({words}.{name} v)") for name, member in members_as_written(struct)]
+    listed = "\n        ∷ ".join([*octets, source.word("[]")])
+    if octets:
+        source.word("∷")
+    if not struct.has_additions:
+        return f"{source.page_word(ASN1, 'joined')} (\n        {listed})"
+    kept = f"({source.page_word(ADDITIONS_OF, 'octets_of')} ({words}.additions v))"
+    return f"{source.page_word(ADDITIONS, 'joined_before')} {kept} (\n        {listed})"
 
 
 def members_as_written(struct: Struct) -> list[tuple[str, Member]]:

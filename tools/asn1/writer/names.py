@@ -55,6 +55,7 @@ RUST: dict[str, tuple[str, str]] = {
     "Tagged": ("der_elem", "Tagged"),
     "ValueOrd": ("der_elem", "ValueOrd"),
     # fields
+    "Additions": ("der_additions", "Additions"),
     "DecodeFields": ("der_fields", "DecodeFields"),
     "DefaultFalse": ("der_fields", "DefaultFalse"),
     "DefaultNumber": ("der_fields", "DefaultNumber"),
@@ -184,6 +185,8 @@ WORDS: dict[str, tuple[str, str]] = {
             "optional_choice_field optional_field part seen_choice seen_member struct_member"
         ).split()
     },
+    "additions_members": ("der_additions.specs.AdditionsLaws", "additions_members"),
+    "additions_copies": ("der_additions.specs.AdditionsLaws", "additions_copies"),
     "tlv_tagged": ("der_elem.specs.TaggedLaws", "tlv_tagged"),
     "∷": ("std.specs.Prelude", "◌∷◌"),
     "List": ("std.specs.Prelude", "List"),
@@ -312,6 +315,8 @@ TAGS = {
 
 ASN1 = "der_modules.specs.Asn1"
 LISTS = "der_lists.specs.Asn1"  # those of lists
+ADDITIONS = "der_additions.specs.Asn1"  # those of the elements that `@skip` keeps
+ADDITIONS_OF = "der_additions.specs.Additions"  # what these elements show
 
 # The words of constraints, and the module of each.
 CONSTRAINT_WORDS = {
@@ -389,6 +394,7 @@ LOGIC: dict[str, tuple[str | None, str]] = {
     "signed": ("std.specs.Prelude", "ℤ"),
     "Option": ("std.specs.Prelude", "Option"),
     **{name: (f"der_constrained.specs.declared.{file}.{name}", name) for name, file in CONSTRAINTS.items()},
+    "Additions": ("der_additions.specs.declared.additions.Additions", "Additions"),
     "Any": ("der_opaque.specs.declared.any.Any", "Any"),
     "AnyRef": ("der_opaque.specs.declared.any_ref.AnyRef", "AnyRef"),
     "BitString": ("der_bits.specs.declared.bit_string.BitString", "BitString"),

@@ -3,7 +3,7 @@
 from __future__ import annotations
 
 from ..model import List, Struct
-from .fields import Member, members_of
+from .fields import Member, members_of, place_after
 from .plan import Plan
 from .source import Page
 from .copies import way_to_list
@@ -16,6 +16,10 @@ def write_struct_page(plan: Plan, struct: Struct) -> str:
     whole = page.logic_type(struct)
     for member in members_of(struct):
         page.add(projection(page, whole, member))
+    if struct.has_additions:
+        comment = "-- the elements after these, which the module does not have"
+        place = f"v.fields{place_after(len(struct.fields))}"
+        page.add(f"{comment}\nabbrev pub additions : {whole} → {page.logic('Additions')}\nadditions v = {place}")
     return page.text()
 
 

@@ -44,6 +44,13 @@ def structs_of(module: ResolvedModule) -> list[Struct]:
     return [found for found in structs if not found.is_holder and not is_apart(found)]
 
 
+def check_end(struct: Struct) -> None:
+    """The words of places end with the last field."""
+    if struct.has_additions:
+        words = f"the places of the fields of '{struct.name}', which has elements after them ('@skip'), are not written"
+        raise AsnError(struct.place, words, "leave the crate out of the line 'places', or the '@skip' out")
+
+
 def root(module: ResolvedModule, structs: list[Struct]) -> str:
     """The module's own file."""
     names = sorted((snake(struct.rust), places_name(struct)) for struct in structs)
@@ -93,6 +100,7 @@ class Places:
     """The file of one struct."""
 
     def __init__(self, plan: Plan, target: Target, struct: Struct) -> None:
+        check_end(struct)
         self.struct = struct
         self.source = Source(plan, target, snake(struct.rust))
         self.fields = [Placed(member, f"field{member.index + 1}") for member in members_of(struct)]

@@ -5,7 +5,7 @@ from __future__ import annotations
 from ..model import Presence, Struct
 from ..properties import properties_of_definition
 from ..spelling import snake
-from . import docs, markers
+from . import additions, docs, markers
 from .copies import Copies
 from .equality import BREAK, listed, tag_of_marker, write_member
 from .fields import AT_ONCE, TAIL, Member, list_type, members_of, place_within
@@ -30,7 +30,7 @@ def write_struct(plan: Plan, struct: Struct) -> str:
     members = members_of(struct)
     lifetime = lifetime_of(properties_of_definition(struct).borrows)
     types = [member.list_type(source) for member in members]
-    source.add(f"/// The list of the fields.\ntype Fields{lifetime} = {list_type(source, types)};")
+    source.add(f"/// The list of the fields.\ntype Fields{lifetime} = {list_type(source, types, additions.end_type(source, struct))};")
     source.add(declaration(struct, lifetime))
     if not struct.is_holder:
         source.add(own_calls(source, struct, members, lifetime))
@@ -56,12 +56,13 @@ def equality_and_copies(source: Source, struct: Struct, lifetime: str) -> None:
     whole = struct.rust + lifetime
     tag = tag_of_marker(source, markers.of_definition(source, struct))
     view = "v.fields.list" if struct.fields else "v.fields"
-    term = f"{source.word('struct_member')} {tag} (λ v. {view}){BREAK}{listed(source, struct.fields)}"
+    equal, copied = ("additions_members", "additions_copies") if struct.has_additions else ("no_fields", "no_copies")
+    term = f"{source.word('struct_member')} {tag} (λ v. {view}){BREAK}{listed(source, struct.fields, equal)}"
     write_member(source, whole, lifetime, term)
     if properties_of_definition(struct).is_copy:
         copy_is_duplicate(source, whole, lifetime)
         return
-    copies = f"({source.word('listed_copies')} {Copies(source).list_copies(struct.fields)})"
+    copies = f"({source.word('listed_copies')} {Copies(source).list_copies(struct.fields, copied)})"
     copy_laws(source, whole, lifetime, f"{source.word('held_copies')} (λ v. v.fields.list){BREAK}{copies}")
     duplicate_value(source, struct, lifetime)
 
@@ -70,11 +71,12 @@ def first_lines(struct: Struct) -> list[str]:
     if struct.is_holder:
         return [f"//! {struct.name}, a value with its tag."]
     kind = "SET" if struct.is_set else "SEQUENCE"
-    return [f"//! {struct.name}, a {kind} of {len(struct.fields) or 'no'} field{'s' if len(struct.fields) != 1 else ''}."]
+    count = f"{len(struct.fields) or 'no'} field{'s' if len(struct.fields) != 1 else ''}"
+    return [f"//! {struct.name}, a {kind} of {count}{' and what comes after' if struct.has_additions else ''}."]
 
 
 def declaration(struct: Struct, lifetime: str) -> str:
-    more = ["The fields are encoded in the order of their tags (X.690 10.3)."] if struct.is_set else []
+    more = ["The fields are encoded in the order of their tags (X.690 10.3)."] if struct.is_set else additions.words(struct)
     return (
         f"{docs.of_definition(struct, *more, docs.errors(struct))}\n{derives(struct, is_shown=False)}\n"
         f"pub struct {struct.rust}{lifetime} {{\n    {'pub(crate) ' if struct.is_holder else ''}fields: Fields{lifetime},\n}}"
@@ -86,7 +88,7 @@ def declaration(struct: Struct, lifetime: str) -> str:
 
 def own_calls(source: Source, struct: Struct, members: list[Member], lifetime: str) -> str:
     """`new`, `into_parts`, and an accessor a field, each with its clauses."""
-    if not members:
+    if not members and not struct.has_additions:
         return no_fields_call(source, struct)
     words = page_of(source, struct)
     parts = [
@@ -94,11 +96,12 @@ def own_calls(source: Source, struct: Struct, members: list[Member], lifetime: s
         new_call(source, struct, members, lifetime, words),
     ]
     if not properties_of_definition(struct).is_copy:
-        parts.append(into_parts_call(source, members, words))
+        parts.append(into_parts_call(source, struct, members, words))
     if any(member.is_optional and not member.is_small for member in members):
         parts.insert(1, "    ghost use Rattle.std.specs.Prelude.{option_copied};")
         parts[0:2] = ["\n".join(parts[0:2])]
     parts += [accessor(source, member, words) for member in members]
+    parts += [additions.call(source, struct, words)] if struct.has_additions else []
     source.word("≡")
     return f"impl{lifetime} {struct.rust}{lifetime} {{\n" + "\n\n".join(parts) + "\n}"
 
@@ -118,6 +121,7 @@ def shown(source: Source, struct: Struct, members: list[Member], lifetime: str) 
         f"            .field(\"{member.name}\", {'&' if member.is_small or member.is_optional else ''}self.{member.name}())\n"
         for member in members
     )
+    rows += '            .field("additions", self.additions())\n' if struct.has_additions else ""
     return (
         f"impl{lifetime} {fmt}::Debug for {struct.rust}{lifetime} {{\n"
         f"    fn fmt<W: {fmt}::Write>(&self, f: &mut {fmt}::Formatter<W>) -> {fmt}::Result {{\n"
@@ -132,14 +136,18 @@ def page_of(source: Source, struct: Struct) -> str:
 
 def new_call(source: Source, struct: Struct, members: list[Member], lifetime: str, words: str) -> str:
     """`new`, from the values of all fields."""
-    parameters = ", ".join(f"{member.local}: {member.parameter_type(source)}" for member in members)
-    clauses = "".join(
-        f"\n        ensures {member.name} {{ {words}.{member.name} result ≡ {entry(member)} }}" for member in members
-    )
+    values = [(member.local, member.parameter_type(source)) for member in members]
+    given = [(member.name, entry(member)) for member in members]
+    if struct.has_additions:
+        values.append(("additions", f"&{additions.TYPE}"))
+        given.append(("additions", "additions.now"))
+    parameters = ", ".join(f"{name}: {type_}" for name, type_ in values)
+    clauses = "".join(f"\n        ensures {name} {{ {words}.{name} result ≡ {value} }}" for name, value in given)
+    lets = list_lets(source, members, additions.copied(source, struct))
     return (
         f"{docs.doc('A value of these fields.', indent='    ')}\n"
         f"    pub fn new({parameters}) -> {struct.rust}{lifetime}{clauses}\n    {{\n"
-        f"{list_lets(source, members)}        {struct.rust} {{ fields }}\n    }}"
+        f"{lets}        {struct.rust} {{ fields }}\n    }}"
     )
 
 
@@ -150,11 +158,14 @@ def entry(member: Member) -> str:
     return f"{member.local}.entry" if member.borrows else member.local
 
 
-def list_lets(source: Source, members: list[Member]) -> str:
-    """The list of the values: of more than eight, those after them first."""
+def list_lets(source: Source, members: list[Member], end: str) -> str:
+    """The list of the values: of more than eight, those after them first. `end` is what stands after the last, if anything."""
+    if not members:
+        return f"        let fields = {end};\n"
     head, tail = members[:AT_ONCE], members[AT_ONCE:]
-    lines = list_lets(source, tail) if tail else ""
-    values = ", ".join(in_list(source, member) for member in head) + ("; rest" if tail else "")
+    lines = list_lets(source, tail, end) if tail else ""
+    after = "rest" if tail else end
+    values = ", ".join(in_list(source, member) for member in head) + (f"; {after}" if after else "")
     whole = source.use(f"Fields{min(AT_ONCE, len(members))}")
     name = "rest" if head[0].index else "fields"
     return f"{lines}        let list = {source.use('field_list')}![{values}];\n        let {name} = {whole} {{ list }};\n"
@@ -174,32 +185,34 @@ def in_list(source: Source, member: Member) -> str:
     return inner
 
 
-def into_parts_call(source: Source, members: list[Member], words: str) -> str:
+def into_parts_call(source: Source, struct: Struct, members: list[Member], words: str) -> str:
     """`into_parts`, the values of all fields."""
-    types = [member.value_type(source) for member in members]
+    parts = [(member.name, member.local, member.value_type(source)) for member in members]
+    parts += [("additions", "additions", additions.end_type(source, struct))] if struct.has_additions else []
+    types = [type_ for _, _, type_ in parts]
     result = types[0] if len(types) == 1 else f"({', '.join(types)})"
-    whole = "self.entry" if any(member.borrows for member in members) else "self"
+    whole = "self.entry" if properties_of_definition(struct).borrows else "self"
     clauses = "".join(
-        f"\n        ensures {member.name} {{ {words}.{member.name} {whole} ≡ result{'' if len(types) == 1 else f'.{i}'} }}"
-        for i, member in enumerate(members)
+        f"\n        ensures {name} {{ {words}.{name} {whole} ≡ result{'' if len(types) == 1 else f'.{i}'} }}"
+        for i, (name, _, _) in enumerate(parts)
     )
-    lets = "".join(f"        {line}\n" for line in parts_lets(source, members))
-    last = members[0].local if len(types) == 1 else f"({', '.join(member.local for member in members)})"
+    lets = "".join(f"        {line}\n" for line in parts_lets(source, members, "rest: additions" if struct.has_additions else ".."))
+    last = parts[0][1] if len(types) == 1 else f"({', '.join(local for _, local, _ in parts)})"
     return (
         f"{docs.doc('The values of the fields, in their order.', indent='    ')}\n"
         f"    pub fn into_parts(self) -> {result}{clauses}\n    {{\n{lets}        {last}\n    }}"
     )
 
 
-def parts_lets(source: Source, members: list[Member]) -> list[str]:
-    """Each value by its field's name: the list is taken apart from its first on."""
+def parts_lets(source: Source, members: list[Member], end: str) -> list[str]:
+    """Each value by its field's name: the list is taken apart from its first on; `end` stands for what is after its last."""
     lines, place = [], "self.fields"
     for member in members:
         if member.index % AT_ONCE == 0:
             whole = source.use(f"Fields{min(AT_ONCE, len(members) - member.index)}")
             lines.append(f"let {whole} {{ list }} = {place};")
             place = "list"
-        rest = ".." if member is members[-1] else "rest"
+        rest = end if member is members[-1] else "rest"
         first = "first" if member.local == "first" else f"first: {member.local}"
         lines.append(f"let {source.use('Field')} {{ {first}, {rest} }} = {place};")
         place = "rest"

@@ -1,6 +1,7 @@
 -- The grammar of Shapes, in the words of ASN.1.
 -- Made by tools/asn1 from shapes.asn1.
 use Rattle.std.specs.Prelude.{◌∷◌, [], false, negsuc, pos, true}
+use Rattle.der_additions.specs.Asn1.{ADDITIONS}
 use Rattle.der_ascii.specs.Characters.{parse_string}
 use Rattle.der_bits.specs.BitString.{parse_bit_string}
 use Rattle.der_constrained.specs.Alphabets.{characters, either_set, permitted}
@@ -179,6 +180,29 @@ lists =
     (OPTIONAL (IMPLICIT context 1 unordered)
     (field (SET_OF BIT_STRING)
     end)))))
+
+-- Extensible ::= SEQUENCE {
+--     a  INTEGER (0..255),
+--     b  [0] BOOLEAN OPTIONAL,
+--     ...
+-- }
+abbrev pub extensible : Grammar
+extensible =
+    SEQUENCE
+    (field INTEGER_u8
+    (OPTIONAL (IMPLICIT context 0 BOOLEAN)
+    ADDITIONS))
+
+-- Titled ::= SEQUENCE {
+--     title  OCTET STRING,
+--     ...,
+--     note   [0] UTF8String OPTIONAL }
+abbrev pub titled : Grammar
+titled =
+    SEQUENCE
+    (field OCTET_STRING
+    (OPTIONAL (IMPLICIT context 0 UTF8_STRING)
+    ADDITIONS))
 
 -- Nothing ::= SEQUENCE { }
 abbrev pub nothing : Grammar

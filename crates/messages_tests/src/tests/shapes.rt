@@ -1,5 +1,6 @@
 //! Values of each shape, read and written back, and octets that are refused.
 
+mod additions;
 mod constrained;
 mod defaults;
 mod empty;
