@@ -10,8 +10,10 @@ mod sets;
 mod time_stamps;
 
 use crate::tests::{holds, numbered, same};
-use der_asn1_types::asn1::{AnyRef, BitStringRef, Enumerated, NamedBitsRef};
-use der_asn1_types::{DateTime, DerOrd, Duplicate, FromDer, Length, Reader, Tag};
+use der_asn1_types::asn1::{AnyRef, BitStringRef, ContextSpecific, Enumerated, NamedBitsRef};
+use der_asn1_types::{
+    DateTime, DerOrd, Duplicate, FromDer, Length, Reader, Tag, TagMode, TagNumber,
+};
 use der_examples::{
     ResponseStatus, Watched, attribute_set, common_name, contents_of_string, country,
     explicit_version, first_header, is_before, is_same_named_policy, is_same_policy, is_usage,
@@ -21,6 +23,15 @@ use der_examples::{
 };
 use std::cmp::Ordering;
 use std::test::Fail;
+
+// A value with this context-specific tag.
+fn tagged<T>(number: u32, tag_mode: TagMode, value: T) -> ContextSpecific<T> {
+    ContextSpecific {
+        tag_number: TagNumber(number),
+        tag_mode,
+        value,
+    }
+}
 
 #[test]
 fn numbers_are_read_and_written(rt: HostRuntime) -> Result<(), Fail> {

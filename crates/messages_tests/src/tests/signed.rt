@@ -12,9 +12,10 @@ mod status_answers;
 mod status_extensions;
 mod status_requests;
 
-use crate::tests::{is_copied, numbered};
+use crate::tests::{again, is_copied, numbered};
 use der_asn1_types::{Duplicate, Encode, FromDer};
 use der_cms::cms::ContentInfo;
+use der_ocsp::ocsp::OcspResponse;
 use der_pkix::name::Attribute;
 use std::alloc::Global;
 
@@ -27,6 +28,11 @@ fn read_and_copied<'a, T: FromDer<'a> + Duplicate + PartialEq>(
         Ok(value) => Ok(is_copied(&value)),
         Err(e) => Err(e.kind().number()),
     }
+}
+
+// An answer about the status of certificates, read and written back.
+fn answer_again(alloc: Global, octets: &[u8]) -> Result<Vec<u8>, u8> {
+    again::<OcspResponse>(alloc, octets)
 }
 
 // The encoding of what stands in a message.

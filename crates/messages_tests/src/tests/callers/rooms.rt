@@ -4,9 +4,10 @@ ghost use Rattle.std.specs.Prelude.{true};
 ghost use Rattle.der_asn1_types.specs.BackState.{no_back};
 ghost use Rattle.der_asn1_types.specs.Writing.{WriterState};
 
+use super::tagged;
 use crate::tests::{numbered, same, same_in};
-use der_asn1_types::asn1::{AnyRef, ContextSpecific, SetOf};
-use der_asn1_types::{Encode, Error, ErrorKind, SliceWriter, Tag, TagMode, TagNumber, Writer};
+use der_asn1_types::asn1::{AnyRef, SetOf};
+use der_asn1_types::{Encode, Error, ErrorKind, SliceWriter, Tag, TagMode, Writer};
 use std::alloc::Global;
 use std::process::Abort;
 use std::test::Fail;
@@ -87,14 +88,6 @@ fn needs_room<T: Encode>(
         Ok(encoding),
     );
     Ok(())
-}
-
-fn tagged<T>(number: u32, tag_mode: TagMode, value: T) -> ContextSpecific<T> {
-    ContextSpecific {
-        tag_number: TagNumber(number),
-        tag_mode,
-        value,
-    }
 }
 
 #[test]

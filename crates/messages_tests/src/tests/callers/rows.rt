@@ -1,5 +1,6 @@
 //! Values of several kinds in one another: tagged sets, sets of tagged values, tagged bit strings.
 
+use super::tagged;
 use crate::tests::{numbered, same};
 use der_asn1_types::asn1::{
     AnyRef, BitStringRef, ContextSpecific, ContextSpecificRef, SetOf, SetOfVec, Utf8StringRef,
@@ -7,14 +8,6 @@ use der_asn1_types::asn1::{
 use der_asn1_types::{DerOrd, Encode, EncodingRules, SliceReader, Tag, TagMode, TagNumber, Tagged};
 use std::alloc::Global;
 use std::test::Fail;
-
-fn tagged<T>(number: u32, tag_mode: TagMode, value: T) -> ContextSpecific<T> {
-    ContextSpecific {
-        tag_number: TagNumber(number),
-        tag_mode,
-        value,
-    }
-}
 
 // The encoding of a value, through the bound.
 fn encoding<T: Encode>(alloc: Global, value: &T) -> Result<Vec<u8>, u8> {

@@ -1,6 +1,6 @@
 //! Answers about the status of certificates (RFC 6960 section 4.2).
 
-use super::read_and_copied;
+use super::{answer_again, read_and_copied};
 use crate::tests::{again, copied, numbered, put, read_and_compared, same, same_in};
 use der_asn1_types::FromDer;
 use der_extensions::extension::CrlReason;
@@ -27,10 +27,6 @@ const THREE: &str =
 /// oats.pem -rkey oats.key -reqin request.der -respout answer.der -resp_key_id -resp_no_certs`.
 const BY_KEY: &str =
     "308201ae0a0100a08201a7308201a306092b0601050507300101048201943082019030820136a21604140813afd67116762e86f934861382ed3b8604de7b180f32303236313132373136303430395a30820109304f303a300906052b0e03021a050004141dd2f1ee5750656f97110b338c846ee99db6d76704140626271012d69951674cb0484d7d1af9d790eb200201028000180f32303236313132373136303430395a3065303a300906052b0e03021a050004141dd2f1ee5750656f97110b338c846ee99db6d76704140626271012d69951674cb0484d7d1af9d790eb20020103a116180f32303236313131303132303030305aa0030a0101180f32303236313132373136303430395a304f303a300906052b0e03021a050004141dd2f1ee5750656f97110b338c846ee99db6d76704140626271012d69951674cb0484d7d1af9d790eb200201098200180f32303236313132373136303430395a300a06082a8648ce3d0403020348003045022063ce4d4226b80bda0b53ac9ff00be39db5d2dc8954efea470243086baba953b1022100bcd90a97b10a8661fbeb74cef5f8a06bf6218bfbf9bbdb2f2515a8e66b424452";
-
-fn answer_again(alloc: Global, octets: &[u8]) -> Result<Vec<u8>, u8> {
-    again::<OcspResponse>(alloc, octets)
-}
 
 fn basic_again(alloc: Global, octets: &[u8]) -> Result<Vec<u8>, u8> {
     again::<BasicOcspResponse>(alloc, octets)
