@@ -95,6 +95,7 @@ def build(repository: Repository, group: list[Told], options: argparse.Namespace
             return
         for one in at_fault or left:
             one.failed = "compiling: " + error_in(ran, one.name)
+            print(one.line(), flush=True)
         left = [one for one in left if not one.failed]
 
 

@@ -133,7 +133,8 @@ def types_of(module: ResolvedModule, name: str) -> tuple[tuple[str, str], ...]:
 
 
 def rust_of(definition: Definition, path: str) -> str:
-    return f"der_asn1_types::Enumerated<{path}>" if isinstance(definition, Enumeration) else path
+    """The type that octets are read as: of an ENUMERATED the library's, which holds its names."""
+    return f"der_numbers::Enumerated<{path}>" if isinstance(definition, Enumeration) else path
 
 
 class Repository:
@@ -182,7 +183,7 @@ class Repository:
         texts |= {part: names_of(crate) for part, crate in parts}
         for file, text in texts.items():
             (folder / f"src/{file}.rt").write_text(text, encoding="utf-8")
-        self.add_line(name, " " + " ".join(["der_asn1_types", "hex", *(crate.name for crate in crates)]))
+        self.add_line(name, " " + " ".join(["der_asn1_types", "der_numbers", "hex", *(crate.name for crate in crates)]))
         return folder
 
 
