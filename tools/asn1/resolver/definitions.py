@@ -80,12 +80,11 @@ def definition_of(state: State, env: Env, assignment: TypeAssignment, place: Pla
 def assigned(state: State, env: Env, assignment: TypeAssignment) -> Definition:
     """What an assignment defines."""
     notes = Notes(assignment.annotations)
-    spelled = camel(assignment.name)
-    own = state.names_of(env.scope.module).of.get(assignment.name, spelled)
-    rust = notes.argument("name") or own
+    names = state.names_of(env.scope.module)
+    rust = notes.argument("name") or names.of.get(assignment.name, camel(assignment.name))
     context = Context(state, env, env.scope.module.name, rust, notes, [])
-    if own != spelled:
-        said = f"'{assignment.name}' is '{own}', as another type of the module is '{spelled}'"
+    said = names.said(assignment.name)
+    if said is not None:
         context.say(assignment.place, said, f"{said}.")
     found = define(context, assignment.name, assignment.text, assignment.type)
     if not isinstance(found, Alias):

@@ -1,8 +1,10 @@
-"""The names in Rattle of the types of a module: of names that are spelled alike, each but the first has a number."""
+"""The names in Rattle of the types of a module: of names that are spelled alike, each but the first has a number, and so has one
+that the written files use themselves."""
 
 from __future__ import annotations
 
 from ..annotations import NAMED_BY
+from ..reserved import is_reserved
 from ..spelling import camel
 from ..syntax import Module, TypeAssignment
 
@@ -17,9 +19,18 @@ class Names:
         seen: set[str] = set()
         for name in names:
             spelled = camel(name)
-            self.of[name] = self.apart(spelled) if spelled.lower() in seen else spelled
+            self.of[name] = self.apart(spelled) if spelled.lower() in seen or is_reserved(spelled) else spelled
             self.taken.add(self.of[name].lower())
             seen.add(spelled.lower())
+
+    def said(self, name: str) -> str | None:
+        """Why a type has a number in its name, if it has one."""
+        spelled = camel(name)
+        own = self.of.get(name, spelled)
+        if own == spelled:
+            return None
+        other = "what the written files use" if is_reserved(spelled) else "another type of the module"
+        return f"'{name}' is '{own}', as {other} is '{spelled}'"
 
     def apart(self, name: str) -> str:
         """The name, or with the least number from 2 on with which it differs from these in more than its capitals."""

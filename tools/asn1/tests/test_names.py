@@ -6,7 +6,7 @@ import re
 import unittest
 
 from ..errors import AsnError
-from ..spelling import field, snake, variant
+from ..spelling import camel, field, snake, variant
 from .helpers import definitions, module_of, refusal, remarks
 from .test_writer import written
 
@@ -100,10 +100,21 @@ class Types(unittest.TestCase):
         for name in ("Laws", "LAWS", "Aliases", "Constants", "Grammar"):
             for type_ in ("SEQUENCE { a NULL }", "NULL"):
                 with self.subTest(f"{name} ::= {type_}"):
-                    error = refused(f"A ::= NULL\n{name} ::= {type_}")
+                    error = refused(f"A ::= NULL\nB ::= {type_} -- @name({camel(name)})")
                     self.assertIn("a file that each module has", error.problem)
                     self.assertEqual((error.place.line, error.place.column), (3, 1))
                     self.assertIn("@name(", error.instead)
+
+    def test_a_type_with_a_name_that_the_files_use_has_a_number(self) -> None:
+        for name, own in (("Result", "Result2"), ("SetTag", "SetTag2"), ("Laws", "Laws2"), ("LAWS", "Laws2"), ("Choice", "Choice2")):
+            for type_ in ("SEQUENCE { a NULL }", "NULL", "ENUMERATED { a }", "SET OF NULL"):
+                with self.subTest(f"{name} ::= {type_}"):
+                    body = f"{name} ::= {type_}\nB ::= SEQUENCE {{ b {name} }}"
+                    self.assertEqual(sorted(definitions(body)), ["B", own])
+                    said = f"'{name}' is '{own}', as what the written files use is '{own[:-1]}'"
+                    self.assertIn(f"2:1 {said}", remarks(body))
+                    self.assertTrue(any(said in text for text in written(module_of(body)).values()))
+        self.assertEqual(sorted(definitions("Result ::= NULL\nResult2 ::= NULL\nRESULT ::= NULL")), ["Result2", "Result3", "Result4"])
 
     def test_names_that_differ_in_capitals_alone(self) -> None:
         error = refused("Ab ::= SEQUENCE { a NULL }\nB ::= SEQUENCE { a NULL } -- @name(AB)")

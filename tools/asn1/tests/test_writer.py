@@ -275,7 +275,7 @@ class Shapes(unittest.TestCase):
 class Files(unittest.TestCase):
     def test_a_name_that_the_files_use_is_refused(self) -> None:
         with self.assertRaises(AsnError) as caught:
-            written(module_of("Tag ::= SEQUENCE { a NULL }"))
+            written(module_of("Mark ::= SEQUENCE { a NULL } -- @name(Tag)"))
         self.assertIn("'Tag' is the name of something that the written file uses", caught.exception.problem)
         self.assertIn("src/test/my_tag.rt", written(module_of("Tag ::= SEQUENCE { a NULL } -- @name(MyTag)")))
 

@@ -4,6 +4,7 @@ from __future__ import annotations
 
 from ..errors import AsnError
 from ..model import Alias, Choice, Definition, Enumeration, List, ResolvedModule, Struct, is_within
+from ..reserved import FILES, TAKEN
 from ..spelling import snake
 from .aliases import constant_name, write_aliases, write_constants
 from .choices import write_choice, write_choice_page, write_order_proof
@@ -12,14 +13,10 @@ from .defaults import markers_of, write_defaults
 from .grammar import GrammarPage
 from .lists import write_list
 from .module_laws import write_laws
-from .names import LOGIC, RUST, WORDS
 from .pages import write_list_page, write_struct_page
 from .plan import DEFAULT_LAWS, DEFAULTS, Plan, Target, is_apart
-from .source import PRELUDE
 from .structs import write_struct
 
-TAKEN = PRELUDE | {name for words in (RUST, LOGIC, WORDS) for _, name in words.values()} | {"Fields", "Tree"}
-FILES = ("aliases", "constants", "grammar", "laws")  # of each module, beside those of its types
 MARK = "Made by tools/asn1"
 
 

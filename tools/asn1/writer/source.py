@@ -6,8 +6,6 @@ from ..model import Definition, Marker
 from .names import LOGIC, MEMBERS, RUST, WORDS
 from .plan import DEFAULT_LAWS, DEFAULTS, Plan, Target
 
-# Names that a file uses and that no type of ASN.1 may have beside them.
-PRELUDE = frozenset(["Err", "None", "Ok", "Option", "Result", "Self", "Some", "Vec", "Box", "String"])
 
 
 class Source:
