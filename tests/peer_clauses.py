@@ -326,6 +326,14 @@ def has_no_arcs(octets):
     return any(node.tag == (0, 6) and not node.is_constructed and not is_arcs(node.contents) for node in every(octets) if node.contents)
 
 
+def is_well_formed(octets):
+    """Whether all elements, those within others too, have headers and lengths of DER: within an ANY they are not looked at here."""
+    try:
+        return all(is_well_formed(node.contents) for node in nodes_of(octets) if node.is_constructed)
+    except Broken:
+        return False
+
+
 def every(octets):
     """All elements, those within others too, as far as they are such."""
     try:
@@ -337,15 +345,36 @@ def every(octets):
 
 def within(definition):
     """The definitions that a type names."""
+    return [it for type_ in types_within(definition) for it in used(type_)]
+
+
+def types_within(definition):
+    """The types of the parts of a definition."""
     if isinstance(definition, Struct):
-        types = [one.type for one in definition.fields]
-    elif isinstance(definition, Choice):
-        types = [one.type for one in definition.alternatives]
-    elif isinstance(definition, List):
-        types = [definition.item]
-    else:
-        types = [definition.type] if isinstance(definition, Alias) else []
-    return [it for type_ in types for it in used(type_)]
+        return [one.type for one in definition.fields]
+    if isinstance(definition, Choice):
+        return [one.type for one in definition.alternatives]
+    if isinstance(definition, List):
+        return [definition.item]
+    return [definition.type] if isinstance(definition, Alias) else []
+
+
+def has_unread(definition, seen):
+    """Whether a type, or one within it, has a part whose octets are kept as they are."""
+    if id(definition) in seen:
+        return False
+    seen.add(id(definition))
+    leaves = [leaf for type_ in types_within(definition) for leaf in leaves_of(type_)]
+    return any(leaf.whole in (Whole.ANY, Whole.UNREAD_SEQUENCE) for leaf in leaves) or any(has_unread(it, seen) for it in within(definition))
+
+
+def leaves_of(type_):
+    """The library's types that stand in a type."""
+    if isinstance(type_, Tagged):
+        return leaves_of(type_.of)
+    if isinstance(type_, Listed):
+        return leaves_of(type_.item)
+    return [type_] if isinstance(type_, Leaf) else []
 
 
 def used(type_):

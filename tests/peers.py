@@ -76,6 +76,7 @@ class Protocol:
     name: str
     module: str
     modules: list = field(default_factory=list)
+    is_unread: bool = False  # some component is not read here
     types: dict = field(default_factory=dict)
     values: int = 0
     mutants: int = 0
@@ -134,7 +135,7 @@ def protocols_of(options, folder):
             names = put_texts(lot, folder, name, module, changes)
             if names is not None:
                 taken_here(folder, names)
-                yield Protocol(name, module, names)
+                yield Protocol(name, module, names, any("@unread" in new for _, new, _ in changes))
         except AsnError as error:
             left_out(name, error)
 
@@ -217,20 +218,17 @@ def has_remarks(definition, seen):
     if id(definition) in seen:
         return False
     seen.add(id(definition))
-    return bool(definition.remarks) or any(has_remarks(it, seen) for it in peer_clauses.within(definition))
+    return any("not checked" in it for it in definition.remarks) or any(has_remarks(it, seen) for it in peer_clauses.within(definition))
 
 
-def explained(definition, octets, here, there):
-    """The kind of an answer, and the clause that explains a difference, if there is one and it is explained."""
+def explained(protocol, definition, octets, here, there):
+    """The kind of the answers, and the clause that explains a difference, where there is one."""
     clause = peer_clauses.broken(Use(definition), octets)
     if here == "same" and clause is None:
         if there == "same":
             return "taken by both", None
-        if peer_clauses.has_no_arcs(octets):
-            return "taken here alone", "X.690 8.19.2: octets of an identifier that are no arcs, which are kept"
-        if there.startswith("refused") and has_remarks(definition, set()):
-            return "taken here alone", "X.680 51: a constraint that is said not to be checked"
-        return "unexplained", None
+        clause = why_taken(protocol, definition, octets, there)
+        return ("taken here alone", clause) if clause else ("unexplained", None)
     if not here.startswith("refused"):
         return "unexplained", clause
     if there.startswith("refused"):
@@ -240,11 +238,24 @@ def explained(definition, octets, here, there):
     return ("refused here alone", clause) if clause else ("unexplained", None)
 
 
+def why_taken(protocol, definition, octets, there):
+    """Why octets that break no clause are taken, which the peer refuses or writes otherwise."""
+    if peer_clauses.has_no_arcs(octets):
+        return "X.690 8.19.2: octets of an identifier that are no arcs, which are kept"
+    if not peer_clauses.is_well_formed(octets):
+        return "X.690 8.1: octets within an ANY, which are kept"
+    if protocol.is_unread and peer_clauses.has_unread(definition, set()):
+        return "X.690 8.1: a component with '@unread', which is kept"
+    if there.startswith("refused") and has_remarks(definition, set()):
+        return "X.680 51: a constraint that is said not to be checked"
+    return None
+
+
 def compare(rows, here, there, clauses):
     """Counts the answers of rows, and tells those that nothing explains."""
     failed = 0
     for (one, name, octets), mine, other in zip(rows, here, there):
-        kind, clause = explained(one.types[name], octets, mine, other)
+        kind, clause = explained(one, one.types[name], octets, mine, other)
         one.kinds[kind] += 1
         if kind == "unexplained":
             failed += 1

@@ -18,8 +18,8 @@ from asn1.parser import parse_modules
 
 MODULE = """Test DEFINITIONS IMPLICIT TAGS ::= BEGIN
 All ::= SEQUENCE { a BOOLEAN DEFAULT FALSE, n INTEGER (-5..300) OPTIONAL, s [0] UTF8String (SIZE (1..2)) OPTIONAL, i OBJECT IDENTIFIER OPTIONAL,
-    l [1] SET OF INTEGER OPTIONAL, c [2] Choice OPTIONAL, t GeneralizedTime OPTIONAL, b BIT STRING { one(0) } OPTIONAL, any [3] ANY OPTIONAL }
-Choice ::= CHOICE { x [0] NULL, e [1] ENUMERATED { zero, one } }
+    l [1] SET OF INTEGER OPTIONAL, c [2] Either OPTIONAL, t GeneralizedTime OPTIONAL, b BIT STRING { one(0) } OPTIONAL, any [3] ANY OPTIONAL }
+Either ::= CHOICE { x [0] NULL, e [1] ENUMERATED { zero, one } }
 Open ::= SEQUENCE { a INTEGER (0..5, ...) }
 END
 """
@@ -81,6 +81,10 @@ class Clauses(unittest.TestCase):
                 found = peer_clauses.broken(all_of, bytes.fromhex(digits))
                 self.assertTrue((found or "none").startswith(clause or "none"), found)
 
+    def test_a_part_that_is_kept_as_it_is_is_found(self):
+        found = types()
+        self.assertEqual([peer_clauses.has_unread(found[name], set()) for name in ("All", "Either", "Open")], [True, False, False])
+
     def test_arcs_that_do_not_end_or_begin_with_80_are_none(self):
         for digits, is_so in (("30040602802a", True), ("300406022a80", True), ("300406022a03", False), ("a00430020500", False)):
             self.assertEqual(peer_clauses.has_no_arcs(bytes.fromhex(digits)), is_so)
@@ -115,6 +119,9 @@ class Answers(unittest.TestCase):
         ("All", "30030101ff", "no type", "refused why", "unexplained"),
         ("All", "300406022a80", "same", "refused why", "taken here alone"),
         ("Open", "3003020106", "same", "refused why", "taken here alone"),
+        ("All", "3005a303300105", "same", "refused why", "taken here alone"),
+        ("All", "3006a30430020500", "same", "refused why", "unexplained"),
+        ("All", "3006a30430020500", "refused 4", "rest 2", "unexplained"),
     ]
 
     def test_an_answer_that_no_clause_explains_fails(self):
