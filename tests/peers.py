@@ -21,8 +21,7 @@ from pathlib import Path
 sys.dont_write_bytecode = True
 ROOT = Path(__file__).resolve().parent.parent
 sys.path.insert(0, f"{ROOT}/tools")
-import peer_clauses  # noqa: E402
-import peer_mutants  # noqa: E402
+from lib import peer_clauses, peer_mutants  # noqa: E402
 from asn1.command import MOST_CALLS  # noqa: E402
 from asn1.crates import Entry  # noqa: E402
 from asn1.errors import AsnError  # noqa: E402
@@ -38,7 +37,7 @@ from asn1.tests.trial import Crate, Repository, run, rust_of  # noqa: E402
 CRATE = "peers"
 PROGRAM = "peer_lines"
 OWN = ROOT / "tools/asn1/tests/modules"
-DRIVER = ROOT / "tests/peers/peer.escript"
+DRIVER = ROOT / "tests/lib/peers/peer.escript"
 SECONDS = 3600  # of a processor, for each process of a build or of the peer
 # A protocol, its module, and what is changed in the texts that both read, each with its reason.
 UNREAD = [

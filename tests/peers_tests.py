@@ -11,8 +11,7 @@ from collections import Counter
 
 sys.dont_write_bytecode = True
 import peers  # first: it says where the compiler is
-import peer_clauses
-import peer_mutants
+from lib import peer_clauses, peer_mutants
 from asn1.model import Use
 from asn1.parser import parse_modules
 
