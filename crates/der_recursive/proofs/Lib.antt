@@ -1,0 +1,4 @@
+pub mod SameValues
+pub mod Faults
+pub mod Walking
+pub mod WalkingHeld

@@ -1,0 +1,4 @@
+pub mod Held
+pub mod Depth
+pub mod Checking
+pub mod CheckingNext
