@@ -5,7 +5,7 @@ from __future__ import annotations
 from collections.abc import Iterator
 from contextlib import contextmanager
 
-from ..errors import AsnError, Place, Remark
+from ..errors import Place, Remark
 from ..model import Constant, Definition, ResolvedModule
 from ..notes import Notes
 from ..scope import Env, Library, Scope

@@ -11,7 +11,6 @@ from pathlib import Path
 from ..crates import Entry
 from ..errors import AsnError
 from ..files import read
-from ..model import ResolvedModule
 from ..parser import parse_modules
 from ..reading import text_of_file
 from ..resolver import resolve

@@ -14,7 +14,7 @@ from .grammar import GrammarPage
 from .lists import write_list
 from .module_laws import write_laws
 from .pages import write_list_page, write_struct_page
-from .plan import DEFAULT_LAWS, DEFAULTS, Plan, Target, is_apart
+from .plan import DEFAULT_LAWS, DEFAULTS, Plan, is_apart
 from .structs import write_struct
 
 MARK = "Made by tools/asn1"
