@@ -1,5 +1,5 @@
 -- The laws of whole encodings that stand one after another.
-use Rattle.std.proofs.Common.{◌≡◌, ℕ, ◌+◌, ◌<◌, ◌^◌, List, [], ◌∷◌, ◌++◌, length, drop, Bool, true, false, Option, Some, None, Result, Ok, Err, refl, sym, ap, ◌∙◌, subst, append_assoc}
+use Rattle.std.proofs.Common.{◌≡◌, ℕ, ◌+◌, ◌<◌, ◌^◌, List, [], ◌∷◌, ◌++◌, length, drop, Bool, true, false, Option, Some, None, Result, Ok, Err, inl, inr, refl, sym, ap, ◌∙◌, subst, append_assoc}
 use Rattle.std.proofs.Math.Logic.{∥∥₁_elim}
 use Rattle.std.proofs.Math.Seq.{drop-append_seam}
 use Rattle.std.proofs.Props.{props}
@@ -14,10 +14,12 @@ use Rattle.der_tlv.specs.Identifier.{identifier}
 use Rattle.der_tlv.specs.LengthOctets.{length_octets}
 use Rattle.der_tlv.specs.OctetFaults.{IsOfOctets}
 use Rattle.der_tlv.specs.TagParts.{IsTag}
+use Rattle.der_elem.specs.Decoding.{Faults}
 use Rattle.der_elem.specs.FirstTags.{BeginsWithFirst, BeginsWithTag, Starts}
 use Rattle.der_nest.specs.BorrowedSequences.{items_format, parse_all_items}
 use Rattle.der_nest.specs.KeptFormat.{as_they_came, kept_of_octets}
-use Rattle.der_nest.specs.Lists.{AcceptsEach}
+use Rattle.der_nest.specs.ListLaws.{parse_each-end}
+use Rattle.der_nest.specs.Lists.{AcceptsEach, join_encodings}
 use Rattle.der_opaque.specs.AnyForm.{parse_any}
 use Rattle.der_opaque.specs.declared.any_ref.AnyRef.{AnyRef}
 use Rattle.der_opaque.specs.contracts.any_ref.AnyRefForm.TheImpl.{ghosts as any_form}
@@ -25,19 +27,28 @@ use Rattle.der_additions.specs.Elements.{AreElements, first_tag, parse_elements,
 
 -- ---- parsing
 
-is_ok : Result (List ℕ) ErrorKind → Bool
+abbrev is_ok : Result (List ℕ) ErrorKind → Bool
 is_ok (Ok contents) = true
 is_ok (Err kind) = false
 
 kept_as_they_came : (octets : List ℕ) (r : Result (List ℕ) ErrorKind) → is_ok r ≡ true → as_they_came octets r ≡ Ok octets
 kept_as_they_came octets (Ok contents) e = refl
-kept_as_they_came octets (Err kind) e = absurd (cc)
+kept_as_they_came octets (Err kind) e = let none : false ≡ true = e in absurd (cc)
 
 -- octets that are elements come to themselves
 pub elements_parsed : (octets : List ℕ) → ∥ AreElements octets ∥₁ → length octets < 2 ^ 32 → (rules : EncodingRules) (p : ℕ) → parse_elements rules p octets ≡ Ok octets
 elements_parsed octets elements fits rules p =
     let parse = parse_all_items parse_any Der 0 octets in
     kept_as_they_came octets parse (∥∥₁_elim elements (hlevel props) (λ are. ap is_ok ((items_format any_form).parse_of_accepted Der are.value 0 octets are.accepted fits)))
+
+-- no octets come to themselves
+pub none_parsed : (rules : EncodingRules) (p : ℕ) → parse_elements rules p [] ≡ Ok []
+none_parsed rules p = ap (λ r. as_they_came [] (join_encodings r)) (parse_each-end 0 parse_any Der 0)
+
+-- no fault is that memory ran out
+pub fault_alone : {A : Type 0} (parsed : Result A ErrorKind) (kind : ErrorKind) → Faults false false parsed kind → Faults false true parsed kind
+fault_alone parsed kind (inl out) = let never : false ≡ true = out.takes in absurd (cc)
+fault_alone parsed kind (inr fault) = inr fault
 
 pub elements_of_octets : (rules : EncodingRules) (p : ℕ) (octets : List ℕ) → IsOfOctets (parse_elements rules p octets)
 elements_of_octets rules p octets = kept_of_octets octets (parse_all_items parse_any Der 0 octets) ((items_format any_form).faults_of_octets Der 0 octets)

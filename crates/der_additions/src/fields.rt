@@ -4,9 +4,10 @@
 //! from the first addition by its tag, as from any field that follows it. So a value in which such a
 //! field is absent, and the first addition has its tag, can be written, and is read as another.
 
-ghost use Rattle.std.specs.Prelude.{◌≡◌, false, None, refl};
+ghost use Rattle.std.specs.Prelude.{◌≡◌, true, false, None, length, refl};
 ghost use Rattle.std.proofs.Common.{ap, subst, sym};
 ghost use Rattle.std.specs.Cmp.Lexicographic.{bytes_decides};
+ghost use Rattle.der_tlv.specs.ReaderState.{rest};
 ghost use Rattle.der_additions.specs.ElementLaws.{starts_with_first};
 ghost use Rattle.der_additions.specs.Additions.{additions_format, octets_of};
 
@@ -18,10 +19,18 @@ use der_fields::{
     FieldsEq, FieldsFirstTag, FieldsOrd,
 };
 use der_lists::ListRef;
+use der_modules::copy_of;
 use der_opaque::AnyRef;
 use der_tlv::{BackWriter, Error, Header, Length, Reader, Source, Tag, Writer};
 use std::alloc::Global;
 use std::cmp::Ordering;
+
+/// How many octets the reader shows.
+fn shown_len<'a, R: Source<'a>>(reader: &R) -> Length
+    ensures { result ≡ length (rest (R.state reader.now)) }
+{
+    reader.remaining_len()
+}
 
 impl<'a> FieldList for Additions<'a> {
     ghost list = { additions_format };
@@ -33,8 +42,7 @@ impl<'a, R: Source<'a>> DecodeFields<'a, R> for Additions<'a> {
     const TAKES_MEMORY: bool = false;
 
     fn decode_fields(alloc: Global, reader: &mut R) -> Result<Additions<'a>, Error> {
-        let length = reader.remaining_len();
-        let header = Header::new(Tag::Sequence, length);
+        let header = Header::new(Tag::Sequence, shown_len(reader));
         match ListRef::<'a, AnyRef<'a>>::decode_value(alloc, reader, header) {
             Ok(list) => Ok(Additions { list }),
             Err(e) => Err(e),
@@ -82,7 +90,7 @@ impl<'a> DuplicateFields for Additions<'a> {
     ghost take_memory_to_copy = { false };
 
     fn duplicate_fields(&self) -> Result<Additions<'a>, Error> {
-        Ok(*self)
+        Ok(copy_of(self))
     }
 
     ghost copy_joined = { λ v w c. ap octets_of c };
