@@ -42,7 +42,9 @@ impl<'a, R: Source<'a>> DecodeFields<'a, R> for Additions<'a> {
     const TAKES_MEMORY: bool = false;
 
     fn decode_fields(alloc: Global, reader: &mut R) -> Result<Additions<'a>, Error> {
-        let header = Header::new(Tag::Sequence, shown_len(reader));
+        let length = shown_len(reader);
+        let tag = Tag::Sequence;
+        let header = Header { tag, length };
         match ListRef::<'a, AnyRef<'a>>::decode_value(alloc, reader, header) {
             Ok(list) => Ok(Additions { list }),
             Err(e) => Err(e),
