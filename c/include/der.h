@@ -54,47 +54,80 @@ enum der_number {
     DER_SHORT_ROOM = 103        /* a room that is too short for what is written */
 };
 
-/* The rules of RFC 5280 that stand beyond the grammar, as bits of what der_check_rfc5280 writes: a bit is 1 where the
- * certificate breaks the rule. */
+/* written by tools/bindings: rules */
+/* The rules of RFC 5280 for certificates beyond the grammar, as bits of what der_check_rfc5280 writes: a bit is 1
+ * where the certificate breaks the rule. */
 enum der_certificate_rule {
-    DER_CERTIFICATE_ALGORITHMS_AGREE = 1 << 0,         /* 4.1.1.2, 4.1.2.3: the algorithm within is the one outside */
-    DER_CERTIFICATE_EXTENSIONS_IN_VERSION_3 = 1 << 1,  /* 4.1.2.1: extensions stand in version 3 alone */
-    DER_CERTIFICATE_SERIAL_NUMBER_POSITIVE = 1 << 2,   /* 4.1.2.2: the serial number is positive */
-    DER_CERTIFICATE_SERIAL_NUMBER_AT_MOST_20_OCTETS = 1 << 3, /* 4.1.2.2: and has at most 20 octets */
-    DER_CERTIFICATE_ISSUER_NOT_EMPTY = 1 << 4,         /* 4.1.2.4: the issuer is not empty */
-    DER_CERTIFICATE_EMPTY_SUBJECT_HAS_CRITICAL_ALT_NAME = 1 << 5, /* 4.1.2.6: beside an empty subject stands a
-                                                                     subjectAltName that is critical */
-    DER_CERTIFICATE_UNIQUE_IDENTIFIERS_IN_VERSION_2 = 1 << 6, /* 4.1.2.8: unique identifiers stand in version 2 and 3 alone */
-    DER_CERTIFICATE_EXTENSIONS_STAND_ONCE = 1 << 7,    /* 4.2: each extension stands once */
-    DER_CERTIFICATE_AUTHORITY_KEY_IDENTIFIER_NOT_CRITICAL = 1 << 8, /* 4.2.1.1: it is not critical */
-    DER_CERTIFICATE_SUBJECT_KEY_IDENTIFIER_NOT_CRITICAL = 1 << 9,   /* 4.2.1.2: it is not critical */
-    DER_CERTIFICATE_SUBJECT_DIRECTORY_ATTRIBUTES_NOT_CRITICAL = 1 << 10, /* 4.2.1.8: they are not critical */
-    DER_CERTIFICATE_FRESHEST_CRL_NOT_CRITICAL = 1 << 11,            /* 4.2.1.15: it is not critical */
-    DER_CERTIFICATE_AUTHORITY_INFO_ACCESS_NOT_CRITICAL = 1 << 12,   /* 4.2.2.1: it is not critical */
-    DER_CERTIFICATE_SUBJECT_INFO_ACCESS_NOT_CRITICAL = 1 << 13,     /* 4.2.2.2: it is not critical */
-    DER_CERTIFICATE_BASIC_CONSTRAINTS_OF_CA_CRITICAL = 1 << 14,     /* 4.2.1.9: those of a CA are critical */
-    DER_CERTIFICATE_NAME_CONSTRAINTS_CRITICAL = 1 << 15,            /* 4.2.1.10: they are critical */
-    DER_CERTIFICATE_POLICY_CONSTRAINTS_CRITICAL = 1 << 16,          /* 4.2.1.11: they are critical */
-    DER_CERTIFICATE_INHIBIT_ANY_POLICY_CRITICAL = 1 << 17           /* 4.2.1.14: it is critical */
+    /* the algorithm within is the one outside (4.1.1.2, 4.1.2.3) */
+    DER_CERTIFICATE_ALGORITHMS_AGREE = 1 << 0,
+    /* extensions stand in version 3 alone (4.1.2.1) */
+    DER_CERTIFICATE_EXTENSIONS_IN_VERSION_3 = 1 << 1,
+    /* the serial number is positive (4.1.2.2) */
+    DER_CERTIFICATE_SERIAL_NUMBER_POSITIVE = 1 << 2,
+    /* the serial number has at most 20 octets (4.1.2.2) */
+    DER_CERTIFICATE_SERIAL_NUMBER_AT_MOST_20_OCTETS = 1 << 3,
+    /* the issuer is not empty (4.1.2.4) */
+    DER_CERTIFICATE_ISSUER_NOT_EMPTY = 1 << 4,
+    /* beside an empty subject stands a subjectAltName that is critical (4.1.2.6) */
+    DER_CERTIFICATE_EMPTY_SUBJECT_HAS_CRITICAL_ALT_NAME = 1 << 5,
+    /* unique identifiers stand in version 2 and 3 alone (4.1.2.8) */
+    DER_CERTIFICATE_UNIQUE_IDENTIFIERS_IN_VERSION_2 = 1 << 6,
+    /* each extension stands once (4.2) */
+    DER_CERTIFICATE_EXTENSIONS_STAND_ONCE = 1 << 7,
+    /* authorityKeyIdentifier is not critical (4.2.1.1) */
+    DER_CERTIFICATE_AUTHORITY_KEY_IDENTIFIER_NOT_CRITICAL = 1 << 8,
+    /* subjectKeyIdentifier is not critical (4.2.1.2) */
+    DER_CERTIFICATE_SUBJECT_KEY_IDENTIFIER_NOT_CRITICAL = 1 << 9,
+    /* subjectDirectoryAttributes is not critical (4.2.1.8) */
+    DER_CERTIFICATE_SUBJECT_DIRECTORY_ATTRIBUTES_NOT_CRITICAL = 1 << 10,
+    /* freshestCRL is not critical (4.2.1.15) */
+    DER_CERTIFICATE_FRESHEST_CRL_NOT_CRITICAL = 1 << 11,
+    /* authorityInfoAccess is not critical (4.2.2.1) */
+    DER_CERTIFICATE_AUTHORITY_INFO_ACCESS_NOT_CRITICAL = 1 << 12,
+    /* subjectInfoAccess is not critical (4.2.2.2) */
+    DER_CERTIFICATE_SUBJECT_INFO_ACCESS_NOT_CRITICAL = 1 << 13,
+    /* basicConstraints of a CA is critical (4.2.1.9) */
+    DER_CERTIFICATE_BASIC_CONSTRAINTS_OF_CA_CRITICAL = 1 << 14,
+    /* nameConstraints is critical (4.2.1.10) */
+    DER_CERTIFICATE_NAME_CONSTRAINTS_CRITICAL = 1 << 15,
+    /* policyConstraints is critical (4.2.1.11) */
+    DER_CERTIFICATE_POLICY_CONSTRAINTS_CRITICAL = 1 << 16,
+    /* inhibitAnyPolicy is critical (4.2.1.14) */
+    DER_CERTIFICATE_INHIBIT_ANY_POLICY_CRITICAL = 1 << 17
 };
 
-/* The same of lists of revoked certificates, as bits of what der_check_rfc5280_list writes. */
+/* The same for lists of revoked certificates, as bits of what der_check_rfc5280_list writes. */
 enum der_list_rule {
-    DER_LIST_ALGORITHMS_AGREE = 1 << 0,        /* 5.1.1.2, 5.1.2.2: the algorithm within is the one outside */
-    DER_LIST_EXTENSIONS_IN_VERSION_2 = 1 << 1, /* 5.1.2.1: extensions, of the list or of an entry, stand in version 2 alone */
-    DER_LIST_ISSUER_NOT_EMPTY = 1 << 2,        /* 5.1.2.3: the issuer is not empty */
-    DER_LIST_NEXT_UPDATE_THERE = 1 << 3,       /* 5.1.2.5: nextUpdate is there */
-    DER_LIST_EMPTY_LIST_ABSENT = 1 << 4,       /* 5.1.2.6: a list of no revoked certificates is absent */
-    DER_LIST_EXTENSIONS_STAND_ONCE = 1 << 5,   /* 5.2: each extension of the list stands once */
-    DER_LIST_CRL_NUMBER_NOT_CRITICAL = 1 << 6, /* 5.2.3: it is not critical */
-    DER_LIST_DELTA_CRL_INDICATOR_CRITICAL = 1 << 7,         /* 5.2.4: it is critical */
-    DER_LIST_ISSUING_DISTRIBUTION_POINT_CRITICAL = 1 << 8,  /* 5.2.5: it is critical */
-    DER_LIST_FRESHEST_CRL_NOT_CRITICAL = 1 << 9,            /* 5.2.6: it is not critical */
-    DER_LIST_AUTHORITY_INFO_ACCESS_NOT_CRITICAL = 1 << 10,  /* 5.2.7: it is not critical */
-    DER_LIST_REASON_CODE_NOT_CRITICAL = 1 << 11,            /* 5.3.1: that of an entry is not critical */
-    DER_LIST_INVALIDITY_DATE_NOT_CRITICAL = 1 << 12,        /* 5.3.2: that of an entry is not critical */
-    DER_LIST_CERTIFICATE_ISSUER_CRITICAL = 1 << 13          /* 5.3.3: that of an entry is critical */
+    /* the algorithm within is the one outside (5.1.1.2, 5.1.2.2) */
+    DER_LIST_ALGORITHMS_AGREE = 1 << 0,
+    /* extensions, of the list or of an entry, stand in version 2 alone (5.1.2.1) */
+    DER_LIST_EXTENSIONS_IN_VERSION_2 = 1 << 1,
+    /* the issuer is not empty (5.1.2.3) */
+    DER_LIST_ISSUER_NOT_EMPTY = 1 << 2,
+    /* nextUpdate is there (5.1.2.5) */
+    DER_LIST_NEXT_UPDATE_THERE = 1 << 3,
+    /* a list of no revoked certificates is absent (5.1.2.6) */
+    DER_LIST_EMPTY_LIST_ABSENT = 1 << 4,
+    /* each extension of the list stands once (5.2, 4.2) */
+    DER_LIST_EXTENSIONS_STAND_ONCE = 1 << 5,
+    /* cRLNumber is not critical (5.2.3) */
+    DER_LIST_CRL_NUMBER_NOT_CRITICAL = 1 << 6,
+    /* deltaCRLIndicator is critical (5.2.4) */
+    DER_LIST_DELTA_CRL_INDICATOR_CRITICAL = 1 << 7,
+    /* issuingDistributionPoint is critical (5.2.5) */
+    DER_LIST_ISSUING_DISTRIBUTION_POINT_CRITICAL = 1 << 8,
+    /* freshestCRL is not critical (5.2.6) */
+    DER_LIST_FRESHEST_CRL_NOT_CRITICAL = 1 << 9,
+    /* authorityInfoAccess is not critical (5.2.7) */
+    DER_LIST_AUTHORITY_INFO_ACCESS_NOT_CRITICAL = 1 << 10,
+    /* reasonCode of an entry is not critical (5.3.1) */
+    DER_LIST_REASON_CODE_NOT_CRITICAL = 1 << 11,
+    /* invalidityDate of an entry is not critical (5.3.2) */
+    DER_LIST_INVALIDITY_DATE_NOT_CRITICAL = 1 << 12,
+    /* certificateIssuer of an entry is critical (5.3.3) */
+    DER_LIST_CERTIFICATE_ISSUER_CRITICAL = 1 << 13
 };
+/* end of rules */
 
 /* Where an encoding stands: its identifier octets, length octets and contents octets. A field that is absent has the place
  * of no octets where it would stand. */
@@ -110,109 +143,113 @@ typedef struct der_fault {
     uint32_t position;  /* how many octets had been read, of those that were passed */
 } der_fault;
 
-/* Certificate (RFC 5280 4.1) */
+/* written by tools/bindings: structs */
+/* Places in a certificate (Certificate, RFC 5280 4.1) */
 typedef struct der_certificate_at {
     der_place tbs_certificate;     /* what the signature covers */
     der_place signature_algorithm; /* AlgorithmIdentifier */
     der_place signature_value;     /* BIT STRING */
 
     /* the fields of tbsCertificate */
-    der_place version;       /* after its tag [0]; absent where it is the default, v1 */
-    der_place serial_number; /* INTEGER */
-    der_place signature;     /* AlgorithmIdentifier */
-    der_place issuer;        /* Name */
-    der_place validity;
-    der_place subject; /* Name */
-    der_place subject_public_key_info;
-    der_place issuer_unique_id;  /* with its tag [1] */
-    der_place subject_unique_id; /* with its tag [2] */
-    der_place extensions;        /* after their tag [3] */
+    der_place version;                 /* after its tag [0]; absent where it is the default, v1 */
+    der_place serial_number;           /* INTEGER */
+    der_place signature;               /* AlgorithmIdentifier */
+    der_place issuer;                  /* Name */
+    der_place validity;                /* SEQUENCE of both dates */
+    der_place subject;                 /* Name */
+    der_place subject_public_key_info; /* SubjectPublicKeyInfo */
+    der_place issuer_unique_id;        /* with its tag [1] */
+    der_place subject_unique_id;       /* with its tag [2] */
+    der_place extensions;              /* after their tag [3] */
 
     uint64_t not_before;     /* in seconds from 1970-01-01T00:00:00Z, with no leap seconds */
     uint64_t not_after;      /* the same; the certificate is valid in this second too */
     uint64_t version_number; /* 0 for v1, 1 for v2, 2 for v3 */
 } der_certificate_at;
 
-/* Extension (RFC 5280 4.2) */
+/* Places in an extension (Extension, RFC 5280 4.2) */
 typedef struct der_extension_at {
-    der_place whole;      /* behind it the next one begins */
+    der_place whole;      /* the whole extension; the next one begins after it */
     der_place extn_id;    /* OBJECT IDENTIFIER */
     der_place critical;   /* BOOLEAN; absent where it is the default, FALSE */
     der_place extn_value; /* OCTET STRING */
+
     uint32_t is_critical; /* 1 or 0 */
 } der_extension_at;
 
-/* CertificateList (RFC 5280 5.1) */
+/* Places in a list of revoked certificates (CertificateList, RFC 5280 5.1) */
 typedef struct der_certificate_list_at {
     der_place tbs_cert_list;       /* what the signature covers */
     der_place signature_algorithm; /* AlgorithmIdentifier */
     der_place signature_value;     /* BIT STRING */
 
     /* the fields of tbsCertList */
-    der_place version;     /* INTEGER */
-    der_place signature;   /* AlgorithmIdentifier */
-    der_place issuer;      /* Name */
-    der_place this_update; /* Time */
-    der_place next_update; /* Time */
-    der_place revoked_certificates;
-    der_place crl_extensions; /* after their tag [0] */
+    der_place version;              /* INTEGER */
+    der_place signature;            /* AlgorithmIdentifier */
+    der_place issuer;               /* Name */
+    der_place this_update;          /* Time */
+    der_place next_update;          /* Time */
+    der_place revoked_certificates; /* SEQUENCE OF */
+    der_place crl_extensions;       /* after their tag [0] */
 
     uint64_t this_update_seconds; /* from 1970-01-01T00:00:00Z */
     uint64_t next_update_seconds; /* 0 where the field is absent */
     uint64_t version_number;      /* 0 for v1, where the field is absent; 1 for v2 */
 } der_certificate_list_at;
 
-/* An entry of revokedCertificates (RFC 5280 5.1.2.6) */
+/* Places in an entry of a list of revoked certificates (RevokedCertificate, RFC 5280 5.1.2.6) */
 typedef struct der_revoked_certificate_at {
-    der_place whole;                   /* behind it the next one begins */
-    der_place user_certificate;        /* INTEGER */
-    der_place revocation_date;         /* Time */
-    der_place crl_entry_extensions;    /* SEQUENCE OF */
+    der_place whole;                /* the whole entry; the next one begins after it */
+    der_place user_certificate;     /* INTEGER */
+    der_place revocation_date;      /* Time */
+    der_place crl_entry_extensions; /* SEQUENCE OF */
+
     uint64_t revocation_date_seconds; /* from 1970-01-01T00:00:00Z */
 } der_revoked_certificate_at;
 
-/* SubjectPublicKeyInfo (RFC 5280 4.1.2.7) */
+/* Places in a public key (SubjectPublicKeyInfo, RFC 5280 4.1.2.7) */
 typedef struct der_subject_public_key_info_at {
     der_place algorithm;          /* AlgorithmIdentifier */
     der_place subject_public_key; /* BIT STRING */
 } der_subject_public_key_info_at;
 
-/* PrivateKeyInfo, which is a OneAsymmetricKey (RFC 5958 section 2) */
+/* Places in a private key (PrivateKeyInfo, RFC 5958 section 2) */
 typedef struct der_private_key_info_at {
     der_place version;               /* INTEGER */
     der_place private_key_algorithm; /* AlgorithmIdentifier */
     der_place private_key;           /* OCTET STRING */
     der_place attributes;            /* with their tag [0] */
     der_place public_key;            /* with its tag [1] */
-    uint64_t version_number;         /* 0 for v1, 1 for v2 */
+
+    uint64_t version_number; /* 0 for v1, 1 for v2 */
 } der_private_key_info_at;
 
-/* CertificationRequest (RFC 2986 4.2) */
+/* Places in a request for a certificate (CertificationRequest, RFC 2986 4.2) */
 typedef struct der_certification_request_at {
     der_place certification_request_info; /* what the signature covers */
     der_place signature_algorithm;        /* AlgorithmIdentifier */
     der_place signature;                  /* BIT STRING */
 
     /* the fields of certificationRequestInfo */
-    der_place version; /* INTEGER, which is 0 */
-    der_place subject; /* Name */
-    der_place subject_pk_info;
-    der_place attributes; /* with their tag [0] */
+    der_place version;         /* INTEGER, which is 0 */
+    der_place subject;         /* Name */
+    der_place subject_pk_info; /* SubjectPublicKeyInfo */
+    der_place attributes;      /* with their tag [0] */
 } der_certification_request_at;
 
-/* OCSPResponse (RFC 6960 4.2.1) */
+/* Places in an OCSP response (OCSPResponse, RFC 6960 4.2.1) */
 typedef struct der_ocsp_response_at {
     der_place response_status; /* ENUMERATED */
     der_place response_bytes;  /* after their tag [0] */
 
     /* the fields of responseBytes */
     der_place response_type; /* OBJECT IDENTIFIER */
-    der_place response;      /* OCTET STRING; der_contents gives what der_basic_ocsp_response reads */
+    der_place response;      /* OCTET STRING; der_contents returns what der_basic_ocsp_response reads */
 
     int64_t response_status_number; /* 0 for successful, 1 to 3, 5 or 6 */
 } der_ocsp_response_at;
 
-/* BasicOCSPResponse (RFC 6960 4.2.1) */
+/* Places in a signed OCSP response (BasicOCSPResponse, RFC 6960 4.2.1) */
 typedef struct der_basic_ocsp_response_at {
     der_place tbs_response_data;   /* what the signature covers */
     der_place signature_algorithm; /* AlgorithmIdentifier */
@@ -220,19 +257,19 @@ typedef struct der_basic_ocsp_response_at {
     der_place certs;               /* after their tag [0] */
 
     /* the fields of tbsResponseData */
-    der_place version;      /* after its tag [0]; absent where it is the default, v1 */
-    der_place responder_id; /* CHOICE: after [1] a Name, after [2] an OCTET STRING */
-    der_place produced_at;  /* GeneralizedTime */
-    der_place responses;
+    der_place version;             /* after its tag [0]; absent where it is the default, v1 */
+    der_place responder_id;        /* CHOICE: after [1] a Name, after [2] an OCTET STRING */
+    der_place produced_at;         /* GeneralizedTime */
+    der_place responses;           /* SEQUENCE OF SingleResponse */
     der_place response_extensions; /* after their tag [1] */
 
     uint64_t produced_at_seconds; /* from 1970-01-01T00:00:00Z */
 } der_basic_ocsp_response_at;
 
-/* SingleResponse (RFC 6960 4.2.1) */
+/* Places in a response about one certificate (SingleResponse, RFC 6960 4.2.1) */
 typedef struct der_single_response_at {
-    der_place whole; /* behind it the next one begins */
-    der_place cert_id;
+    der_place whole;             /* the whole response; the next one begins after it */
+    der_place cert_id;           /* CertID */
     der_place cert_status;       /* CHOICE: with its tag [0], [1] or [2] */
     der_place this_update;       /* GeneralizedTime */
     der_place next_update;       /* after its tag [0] */
@@ -244,20 +281,20 @@ typedef struct der_single_response_at {
     uint64_t cert_status_number;      /* 0 for good, 1 for revoked, 2 for unknown */
 } der_single_response_at;
 
-/* ContentInfo (RFC 5652 section 3) */
+/* Places in a message with its type (ContentInfo, RFC 5652 section 3) */
 typedef struct der_content_info_at {
     der_place content_type; /* OBJECT IDENTIFIER */
-    der_place content;      /* after its tag [0]; of id-signedData der_contents gives what der_signed_data reads */
+    der_place content;      /* after its tag [0]; of id-signedData der_contents returns what der_signed_data reads */
 } der_content_info_at;
 
-/* SignedData (RFC 5652 5.1) */
+/* Places in a signed message (SignedData, RFC 5652 5.1) */
 typedef struct der_signed_data_at {
-    der_place version; /* INTEGER */
-    der_place digest_algorithms;
-    der_place encap_content_info;
-    der_place certificates; /* with their tag [0] */
-    der_place crls;         /* with their tag [1] */
-    der_place signer_infos;
+    der_place version;            /* INTEGER */
+    der_place digest_algorithms;  /* SET OF AlgorithmIdentifier */
+    der_place encap_content_info; /* SEQUENCE */
+    der_place certificates;       /* with their tag [0] */
+    der_place crls;               /* with their tag [1] */
+    der_place signer_infos;       /* SET OF SignerInfo */
 
     /* the fields of encapContentInfo */
     der_place e_content_type; /* OBJECT IDENTIFIER */
@@ -266,9 +303,9 @@ typedef struct der_signed_data_at {
     uint64_t version_number; /* 0 to 5 */
 } der_signed_data_at;
 
-/* SignerInfo (RFC 5652 5.3) */
+/* Places in a signer (SignerInfo, RFC 5652 5.3) */
 typedef struct der_signer_info_at {
-    der_place whole;               /* behind it the next one begins */
+    der_place whole;               /* the whole signer; the next one begins after it */
     der_place version;             /* INTEGER */
     der_place sid;                 /* CHOICE: a SEQUENCE of issuer and serial number, or with its tag [0] a key's identifier */
     der_place digest_algorithm;    /* AlgorithmIdentifier */
@@ -280,53 +317,59 @@ typedef struct der_signer_info_at {
     uint64_t version_number; /* 0 to 5 */
 } der_signer_info_at;
 
-/* AttributeTypeAndValue, of a name (RFC 5280 4.1.2.4) */
+/* Places in an attribute of a name (AttributeTypeAndValue, RFC 5280 4.1.2.4) */
 typedef struct der_attribute_type_and_value_at {
-    der_place whole; /* behind it the next one of the same part begins */
+    der_place whole; /* the whole attribute; the next one of the same part begins after it */
     der_place type;  /* OBJECT IDENTIFIER */
     der_place value; /* of any type */
 } der_attribute_type_and_value_at;
 
-/* Attribute, of a signer, a request or a private key (RFC 5652 5.3, RFC 2986 4.1, RFC 5958 section 2) */
+/* Places in an attribute of a signer, a request or a private key (Attribute, RFC 5652 5.3, RFC 2986 4.1, RFC 5958
+ * section 2) */
 typedef struct der_attribute_at {
-    der_place whole;  /* behind it the next one begins */
+    der_place whole;  /* the whole attribute; the next one begins after it */
     der_place type;   /* OBJECT IDENTIFIER */
     der_place values; /* SET OF */
 } der_attribute_at;
 
-static_assert(sizeof(der_place) == 8, "two numbers of 32 bits");
-static_assert(sizeof(der_fault) == 12, "three numbers of 32 bits");
-static_assert(sizeof(der_certificate_at) == 128, "thirteen places and three numbers of 64 bits");
-static_assert(offsetof(der_certificate_at, version) == 24, "behind three places");
-static_assert(offsetof(der_certificate_at, not_before) == 104, "behind thirteen places");
-static_assert(sizeof(der_extension_at) == 36, "four places and a number of 32 bits");
-static_assert(offsetof(der_extension_at, is_critical) == 32, "behind four places");
-static_assert(sizeof(der_certificate_list_at) == 104, "ten places and three numbers of 64 bits");
-static_assert(offsetof(der_certificate_list_at, version) == 24, "behind three places");
-static_assert(offsetof(der_certificate_list_at, this_update_seconds) == 80, "behind ten places");
-static_assert(sizeof(der_revoked_certificate_at) == 40, "four places and a number of 64 bits");
-static_assert(offsetof(der_revoked_certificate_at, revocation_date_seconds) == 32, "behind four places");
-static_assert(sizeof(der_subject_public_key_info_at) == 16, "two places");
-static_assert(sizeof(der_private_key_info_at) == 48, "five places and a number of 64 bits");
-static_assert(offsetof(der_private_key_info_at, version_number) == 40, "behind five places");
-static_assert(sizeof(der_certification_request_at) == 56, "seven places");
-static_assert(offsetof(der_certification_request_at, version) == 24, "behind three places");
-static_assert(sizeof(der_ocsp_response_at) == 40, "four places and a number of 64 bits");
-static_assert(offsetof(der_ocsp_response_at, response_type) == 16, "behind two places");
-static_assert(offsetof(der_ocsp_response_at, response_status_number) == 32, "behind four places");
-static_assert(sizeof(der_basic_ocsp_response_at) == 80, "nine places and a number of 64 bits");
-static_assert(offsetof(der_basic_ocsp_response_at, version) == 32, "behind four places");
-static_assert(offsetof(der_basic_ocsp_response_at, produced_at_seconds) == 72, "behind nine places");
-static_assert(sizeof(der_single_response_at) == 80, "six places and four numbers of 64 bits");
-static_assert(offsetof(der_single_response_at, this_update_seconds) == 48, "behind six places");
-static_assert(sizeof(der_content_info_at) == 16, "two places");
-static_assert(sizeof(der_signed_data_at) == 72, "eight places and a number of 64 bits");
-static_assert(offsetof(der_signed_data_at, e_content_type) == 48, "behind six places");
-static_assert(offsetof(der_signed_data_at, version_number) == 64, "behind eight places");
-static_assert(sizeof(der_signer_info_at) == 72, "eight places and a number of 64 bits");
-static_assert(offsetof(der_signer_info_at, version_number) == 64, "behind eight places");
-static_assert(sizeof(der_attribute_type_and_value_at) == 24, "three places");
-static_assert(sizeof(der_attribute_at) == 24, "three places");
+static_assert(sizeof(der_certificate_at) == 128, "13 places and 3 numbers of 64 bits");
+static_assert(offsetof(der_certificate_at, version) == 24, "after 3 places");
+static_assert(offsetof(der_certificate_at, not_before) == 104, "after 13 places");
+static_assert(sizeof(der_extension_at) == 36, "4 places and 1 number of 32 bits");
+static_assert(offsetof(der_extension_at, extn_id) == 8, "after 1 place");
+static_assert(offsetof(der_extension_at, is_critical) == 32, "after 4 places");
+static_assert(sizeof(der_certificate_list_at) == 104, "10 places and 3 numbers of 64 bits");
+static_assert(offsetof(der_certificate_list_at, version) == 24, "after 3 places");
+static_assert(offsetof(der_certificate_list_at, this_update_seconds) == 80, "after 10 places");
+static_assert(sizeof(der_revoked_certificate_at) == 40, "4 places and 1 number of 64 bits");
+static_assert(offsetof(der_revoked_certificate_at, user_certificate) == 8, "after 1 place");
+static_assert(offsetof(der_revoked_certificate_at, revocation_date_seconds) == 32, "after 4 places");
+static_assert(sizeof(der_subject_public_key_info_at) == 16, "2 places");
+static_assert(sizeof(der_private_key_info_at) == 48, "5 places and 1 number of 64 bits");
+static_assert(offsetof(der_private_key_info_at, version_number) == 40, "after 5 places");
+static_assert(sizeof(der_certification_request_at) == 56, "7 places");
+static_assert(offsetof(der_certification_request_at, version) == 24, "after 3 places");
+static_assert(sizeof(der_ocsp_response_at) == 40, "4 places and 1 number of 64 bits");
+static_assert(offsetof(der_ocsp_response_at, response_type) == 16, "after 2 places");
+static_assert(offsetof(der_ocsp_response_at, response_status_number) == 32, "after 4 places");
+static_assert(sizeof(der_basic_ocsp_response_at) == 80, "9 places and 1 number of 64 bits");
+static_assert(offsetof(der_basic_ocsp_response_at, version) == 32, "after 4 places");
+static_assert(offsetof(der_basic_ocsp_response_at, produced_at_seconds) == 72, "after 9 places");
+static_assert(sizeof(der_single_response_at) == 80, "6 places and 4 numbers of 64 bits");
+static_assert(offsetof(der_single_response_at, cert_id) == 8, "after 1 place");
+static_assert(offsetof(der_single_response_at, this_update_seconds) == 48, "after 6 places");
+static_assert(sizeof(der_content_info_at) == 16, "2 places");
+static_assert(sizeof(der_signed_data_at) == 72, "8 places and 1 number of 64 bits");
+static_assert(offsetof(der_signed_data_at, e_content_type) == 48, "after 6 places");
+static_assert(offsetof(der_signed_data_at, version_number) == 64, "after 8 places");
+static_assert(sizeof(der_signer_info_at) == 72, "8 places and 1 number of 64 bits");
+static_assert(offsetof(der_signer_info_at, version) == 8, "after 1 place");
+static_assert(offsetof(der_signer_info_at, version_number) == 64, "after 8 places");
+static_assert(sizeof(der_attribute_type_and_value_at) == 24, "3 places");
+static_assert(offsetof(der_attribute_type_and_value_at, type) == 8, "after 1 place");
+static_assert(sizeof(der_attribute_at) == 24, "3 places");
+static_assert(offsetof(der_attribute_at, type) == 8, "after 1 place");
+/* end of structs */
 
 /* DER_ABI_VERSION of the library that was linked. */
 uint32_t der_abi_version(void);
@@ -334,55 +377,65 @@ uint32_t der_abi_version(void);
 /* What a number stands for, in English words, which live for ever; "no such number" of another. */
 const char *der_number_text(uint32_t number);
 
-/* Reads octets as a certificate, all of them. No signature is verified, and nothing that RFC 5280 asks beyond the
- * grammar. */
+/* written by tools/bindings: calls */
+/* Reads all octets as a certificate (Certificate, RFC 5280 4.1). No signature is verified, and nothing that RFC 5280
+ * asks beyond the grammar. */
 uint32_t der_certificate(const uint8_t *octets, size_t len, der_certificate_at *out, der_fault *fault);
 
-/* Reads octets as a list of revoked certificates, all of them. */
+/* Reads the extension at the front of the octets (Extension, RFC 5280 4.2). Its places count from there. */
+uint32_t der_extension(const uint8_t *octets, size_t len, der_extension_at *out, der_fault *fault);
+
+/* Reads all octets as a list of revoked certificates (CertificateList, RFC 5280 5.1). */
 uint32_t der_certificate_list(const uint8_t *octets, size_t len, der_certificate_list_at *out, der_fault *fault);
 
-/* Reads octets as a SubjectPublicKeyInfo, all of them. */
+/* Reads the entry of a list of revoked certificates at the front of the octets (RevokedCertificate, RFC 5280
+ * 5.1.2.6). Its places count from there. */
+uint32_t der_revoked_certificate(const uint8_t *octets, size_t len, der_revoked_certificate_at *out, der_fault *fault);
+
+/* Reads all octets as a public key (SubjectPublicKeyInfo, RFC 5280 4.1.2.7). */
 uint32_t der_subject_public_key_info(const uint8_t *octets, size_t len, der_subject_public_key_info_at *out,
                                      der_fault *fault);
 
-/* Reads octets as a PrivateKeyInfo, all of them. The key itself is not read. */
+/* Reads all octets as a private key (PrivateKeyInfo, RFC 5958 section 2). A PrivateKeyInfo is a OneAsymmetricKey.
+ * The key itself is not read. */
 uint32_t der_private_key_info(const uint8_t *octets, size_t len, der_private_key_info_at *out, der_fault *fault);
 
-/* Reads the extension at the front of the octets. Its places count from there. */
-uint32_t der_extension(const uint8_t *octets, size_t len, der_extension_at *out, der_fault *fault);
+/* Reads all octets as a request for a certificate (CertificationRequest, RFC 2986 4.2). */
+uint32_t der_certification_request(const uint8_t *octets, size_t len, der_certification_request_at *out,
+                                   der_fault *fault);
 
-/* Reads the entry of a list of revoked certificates at the front of the octets. Its places count from there. */
-uint32_t der_revoked_certificate(const uint8_t *octets, size_t len, der_revoked_certificate_at *out, der_fault *fault);
-
-/* Reads octets as a CertificationRequest, all of them. */
-uint32_t der_certification_request(const uint8_t *octets, size_t len, der_certification_request_at *out, der_fault *fault);
-
-/* Reads octets as an OCSPResponse, all of them. What stands in response is not read further. */
+/* Reads all octets as an OCSP response (OCSPResponse, RFC 6960 4.2.1). What stands in `response` is not read
+ * further. */
 uint32_t der_ocsp_response(const uint8_t *octets, size_t len, der_ocsp_response_at *out, der_fault *fault);
 
-/* Reads octets as a BasicOCSPResponse, all of them: the contents octets of response, where responseType is
- * id-pkix-ocsp-basic (1.3.6.1.5.5.7.48.1.1). */
+/* Reads all octets as a signed OCSP response (BasicOCSPResponse, RFC 6960 4.2.1). The octets are the contents octets
+ * of `response`, where responseType is id-pkix-ocsp-basic (1.3.6.1.5.5.7.48.1.1). */
 uint32_t der_basic_ocsp_response(const uint8_t *octets, size_t len, der_basic_ocsp_response_at *out, der_fault *fault);
 
-/* Reads octets as a ContentInfo, all of them. What stands in content is not read further. */
-uint32_t der_content_info(const uint8_t *octets, size_t len, der_content_info_at *out, der_fault *fault);
-
-/* Reads octets as a SignedData, all of them: the contents octets of content, where contentType is id-signedData
- * (1.2.840.113549.1.7.2). */
-uint32_t der_signed_data(const uint8_t *octets, size_t len, der_signed_data_at *out, der_fault *fault);
-
-/* Reads the answer about one certificate at the front of the octets. Its places count from there. */
+/* Reads the response about one certificate at the front of the octets (SingleResponse, RFC 6960 4.2.1). Its places
+ * count from there. */
 uint32_t der_single_response(const uint8_t *octets, size_t len, der_single_response_at *out, der_fault *fault);
 
-/* Reads the SignerInfo at the front of the octets. Its places count from there. */
+/* Reads all octets as a message with its type (ContentInfo, RFC 5652 section 3). What stands in `content` is not
+ * read further. */
+uint32_t der_content_info(const uint8_t *octets, size_t len, der_content_info_at *out, der_fault *fault);
+
+/* Reads all octets as a signed message (SignedData, RFC 5652 5.1). The octets are the contents octets of `content`,
+ * where contentType is id-signedData (1.2.840.113549.1.7.2). */
+uint32_t der_signed_data(const uint8_t *octets, size_t len, der_signed_data_at *out, der_fault *fault);
+
+/* Reads the signer at the front of the octets (SignerInfo, RFC 5652 5.3). Its places count from there. */
 uint32_t der_signer_info(const uint8_t *octets, size_t len, der_signer_info_at *out, der_fault *fault);
 
-/* Reads the attribute of a name at the front of the octets. Its places count from there. */
+/* Reads the attribute of a name at the front of the octets (AttributeTypeAndValue, RFC 5280 4.1.2.4). Its places
+ * count from there. */
 uint32_t der_attribute_type_and_value(const uint8_t *octets, size_t len, der_attribute_type_and_value_at *out,
                                       der_fault *fault);
 
-/* Reads the attribute with a set of values at the front of the octets. Its places count from there. */
+/* Reads the attribute of a signer, a request or a private key at the front of the octets (Attribute, RFC 5652 5.3,
+ * RFC 2986 4.1, RFC 5958 section 2). Its places count from there. */
 uint32_t der_attribute(const uint8_t *octets, size_t len, der_attribute_at *out, der_fault *fault);
+/* end of calls */
 
 /* Reads octets as a certificate, all of them, and writes which rules of RFC 5280 it breaks: 0, or the sum of bits of
  * der_certificate_rule. No path is checked, no signature, and no other rule. */
@@ -439,10 +492,11 @@ static inline int der_is_null(const uint8_t *octets, size_t len)
     {                                                                                                                  \
         return der_is_null(octets, len) ? der_refuse(DER_NULL_POINTER, fault) : der_##name(octets, len, out, fault);   \
     }
+/* written by tools/bindings: checked calls */
 DER_CHECKED(certificate)
+DER_CHECKED(extension)
 DER_CHECKED(certificate_list)
 DER_CHECKED(revoked_certificate)
-DER_CHECKED(extension)
 DER_CHECKED(subject_public_key_info)
 DER_CHECKED(private_key_info)
 DER_CHECKED(certification_request)
@@ -456,9 +510,9 @@ DER_CHECKED(attribute_type_and_value)
 DER_CHECKED(attribute)
 #undef DER_CHECKED
 #define der_certificate der_checked_certificate
+#define der_extension der_checked_extension
 #define der_certificate_list der_checked_certificate_list
 #define der_revoked_certificate der_checked_revoked_certificate
-#define der_extension der_checked_extension
 #define der_subject_public_key_info der_checked_subject_public_key_info
 #define der_private_key_info der_checked_private_key_info
 #define der_certification_request der_checked_certification_request
@@ -470,6 +524,7 @@ DER_CHECKED(attribute)
 #define der_signer_info der_checked_signer_info
 #define der_attribute_type_and_value der_checked_attribute_type_and_value
 #define der_attribute der_checked_attribute
+/* end of checked calls */
 
 static inline uint32_t der_checked_check_rfc5280(const uint8_t *octets, size_t len, uint32_t *broken, der_fault *fault)
 {
@@ -579,8 +634,9 @@ static inline void der_take(der_place *left, uint32_t length)
     left->length -= length;
 }
 
-/* The next extension of those that are left; afterwards those behind it are left. 100 where they are not within the
- * octets. */
+/* written by tools/bindings: next calls */
+/* Reads the extension at the front of `left`, and moves `left` past it. The places count from the start of the
+ * octets. At first, `left` is the result of der_extensions. Returns 100 where `left` is not within the octets. */
 static inline uint32_t der_next_extension(const uint8_t *octets, size_t len, der_place *left, der_extension_at *out,
                                           der_fault *fault)
 {
@@ -600,7 +656,9 @@ static inline uint32_t der_next_extension(const uint8_t *octets, size_t len, der
     return 0;
 }
 
-/* The same of the entries of a list of revoked certificates. */
+/* Reads the entry of a list of revoked certificates at the front of `left`, and moves `left` past it. The places
+ * count from the start of the octets. At first, `left` is the result of der_items for `revoked_certificates`.
+ * Returns 100 where `left` is not within the octets. */
 static inline uint32_t der_next_revoked_certificate(const uint8_t *octets, size_t len, der_place *left,
                                                     der_revoked_certificate_at *out, der_fault *fault)
 {
@@ -620,7 +678,9 @@ static inline uint32_t der_next_revoked_certificate(const uint8_t *octets, size_
     return 0;
 }
 
-/* The same of the answers about single certificates (der_items of `responses`). */
+/* Reads the response about one certificate at the front of `left`, and moves `left` past it. The places count from
+ * the start of the octets. At first, `left` is the result of der_items for `responses`. Returns 100 where `left` is
+ * not within the octets. */
 static inline uint32_t der_next_single_response(const uint8_t *octets, size_t len, der_place *left,
                                                 der_single_response_at *out, der_fault *fault)
 {
@@ -642,7 +702,8 @@ static inline uint32_t der_next_single_response(const uint8_t *octets, size_t le
     return 0;
 }
 
-/* The same of signers (der_items of `signer_infos`). */
+/* Reads the signer at the front of `left`, and moves `left` past it. The places count from the start of the octets.
+ * At first, `left` is the result of der_items for `signer_infos`. Returns 100 where `left` is not within the octets. */
 static inline uint32_t der_next_signer_info(const uint8_t *octets, size_t len, der_place *left, der_signer_info_at *out,
                                             der_fault *fault)
 {
@@ -666,7 +727,9 @@ static inline uint32_t der_next_signer_info(const uint8_t *octets, size_t len, d
     return 0;
 }
 
-/* The same of attributes with sets of values (der_items of `signed_attrs`, `unsigned_attrs`, or `attributes`). */
+/* Reads the attribute of a signer, a request or a private key at the front of `left`, and moves `left` past it. The
+ * places count from the start of the octets. At first, `left` is the result of der_items for `signed_attrs`,
+ * `unsigned_attrs` or `attributes`. Returns 100 where `left` is not within the octets. */
 static inline uint32_t der_next_attribute(const uint8_t *octets, size_t len, der_place *left, der_attribute_at *out,
                                           der_fault *fault)
 {
@@ -684,6 +747,7 @@ static inline uint32_t der_next_attribute(const uint8_t *octets, size_t len, der
     out->values = der_behind(before, out->values);
     return 0;
 }
+/* end of next calls */
 
 /* What is left of a name: parts that were not entered, and attributes of the part that was. */
 typedef struct der_name_left {

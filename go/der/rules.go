@@ -3,11 +3,13 @@ package der
 // #include "der.h"
 import "C"
 
+// written by tools/bindings: rules
+
 // CertificateRules are rules of RFC 5280 for certificates that stand beyond the grammar, as bits.
 type CertificateRules uint32
 
 const (
-	// CertificateAlgorithmsAgree: the algorithm within is the one outside (4.1.1.2).
+	// CertificateAlgorithmsAgree: the algorithm within is the one outside (4.1.1.2, 4.1.2.3).
 	CertificateAlgorithmsAgree CertificateRules = 1 << iota
 	// CertificateExtensionsInVersion3: extensions stand in version 3 alone (4.1.2.1).
 	CertificateExtensionsInVersion3
@@ -49,7 +51,7 @@ const (
 type ListRules uint32
 
 const (
-	// ListAlgorithmsAgree: the algorithm within is the one outside (5.1.1.2).
+	// ListAlgorithmsAgree: the algorithm within is the one outside (5.1.1.2, 5.1.2.2).
 	ListAlgorithmsAgree ListRules = 1 << iota
 	// ListExtensionsInVersion2: extensions, of the list or of an entry, stand in version 2 alone (5.1.2.1).
 	ListExtensionsInVersion2
@@ -59,7 +61,7 @@ const (
 	ListNextUpdateIsThere
 	// ListEmptyListIsAbsent: a list of no revoked certificates is absent (5.1.2.6).
 	ListEmptyListIsAbsent
-	// ListExtensionsStandOnce: each extension of the list stands once (5.2).
+	// ListExtensionsStandOnce: each extension of the list stands once (5.2, 4.2).
 	ListExtensionsStandOnce
 	// ListCrlNumberIsNotCritical: cRLNumber is not critical (5.2.3).
 	ListCrlNumberIsNotCritical
@@ -78,6 +80,8 @@ const (
 	// ListCertificateIssuerIsCritical: certificateIssuer of an entry is critical (5.3.3).
 	ListCertificateIssuerIsCritical
 )
+
+// end of rules
 
 // CheckRFC5280 gives the rules that a certificate breaks, which all of the octets are; 0 for none.
 func CheckRFC5280(octets []byte) (CertificateRules, error) {

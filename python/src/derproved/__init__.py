@@ -27,7 +27,7 @@ from collections.abc import Iterator
 from datetime import datetime
 from enum import Enum, IntFlag
 
-from . import _der
+from . import _der, _places
 from ._der import Error
 
 __all__ = [
@@ -78,11 +78,13 @@ class Extension(_der.Extension):
 
     __slots__ = ()
 
-    extn_id = _der.field(1, "`extnID`, an OBJECT IDENTIFIER.")
-    extn_value = _der.field(3, "`extnValue`, an OCTET STRING.")
-    identifier = _der.contents_field(1, "The contents octets of `extnID`: 55 1D 0F of keyUsage.")
-    value = _der.contents_field(3, "The contents octets of `extnValue`: the encoding of what the extension says.")
-    is_critical = _der.flag(0, "`critical`.")
+    extn_id = _der.field(_places.Extension.extn_id, "`extnID`, an OBJECT IDENTIFIER.")
+    extn_value = _der.field(_places.Extension.extn_value, "`extnValue`, an OCTET STRING.")
+    identifier = _der.contents_field(_places.Extension.extn_id, "The contents octets of `extnID`: 55 1D 0F of keyUsage.")
+    value = _der.contents_field(
+        _places.Extension.extn_value, "The contents octets of `extnValue`: the encoding of what the extension says."
+    )
+    is_critical = _der.flag(_places.Extension.is_critical, "`critical`.")
 
 
 class Certificate(_der.Certificate):
@@ -90,21 +92,25 @@ class Certificate(_der.Certificate):
 
     __slots__ = ()
 
-    tbs_certificate = _der.field(0, "`tbsCertificate`: what the signature covers.")
-    signature_algorithm = _der.field(1, "`signatureAlgorithm`, an AlgorithmIdentifier.")
-    signature_value = _der.field(2, "`signatureValue`, a BIT STRING.")
-    serial_number = _der.field(4, "`serialNumber`, an INTEGER.")
-    signature = _der.field(5, "`signature` of what is signed, an AlgorithmIdentifier.")
-    issuer = _der.field(6, "`issuer`, a Name.")
-    validity = _der.field(7, "`validity`.")
-    subject = _der.field(8, "`subject`, a Name.")
-    subject_public_key_info = _der.field(9, "`subjectPublicKeyInfo`, which SubjectPublicKeyInfo reads.")
-    issuer_unique_id = _der.optional(10, "`issuerUniqueID` with its tag [1].")
-    subject_unique_id = _der.optional(11, "`subjectUniqueID` with its tag [2].")
-    not_before = _der.moment(0, "`notBefore`.")
-    not_after = _der.moment(1, "`notAfter`; the certificate is valid in this second too.")
-    version = _der.number(2, "1, 2 or 3.", 1)
-    extensions = _der.items(12, "The extensions, in their order.", 2, Extension)
+    tbs_certificate = _der.field(_places.Certificate.tbs_certificate, "`tbsCertificate`: what the signature covers.")
+    signature_algorithm = _der.field(
+        _places.Certificate.signature_algorithm, "`signatureAlgorithm`, an AlgorithmIdentifier."
+    )
+    signature_value = _der.field(_places.Certificate.signature_value, "`signatureValue`, a BIT STRING.")
+    serial_number = _der.field(_places.Certificate.serial_number, "`serialNumber`, an INTEGER.")
+    signature = _der.field(_places.Certificate.signature, "`signature` of what is signed, an AlgorithmIdentifier.")
+    issuer = _der.field(_places.Certificate.issuer, "`issuer`, a Name.")
+    validity = _der.field(_places.Certificate.validity, "`validity`.")
+    subject = _der.field(_places.Certificate.subject, "`subject`, a Name.")
+    subject_public_key_info = _der.field(
+        _places.Certificate.subject_public_key_info, "`subjectPublicKeyInfo`, which SubjectPublicKeyInfo reads."
+    )
+    issuer_unique_id = _der.optional(_places.Certificate.issuer_unique_id, "`issuerUniqueID` with its tag [1].")
+    subject_unique_id = _der.optional(_places.Certificate.subject_unique_id, "`subjectUniqueID` with its tag [2].")
+    not_before = _der.moment(_places.Certificate.not_before, "`notBefore`.")
+    not_after = _der.moment(_places.Certificate.not_after, "`notAfter`; the certificate is valid in this second too.")
+    version = _der.number(_places.Certificate.version_number, "1, 2 or 3.", 1)
+    extensions = _der.items(_places.Certificate.extensions, "The extensions, in their order.", 2, Extension)
 
 
 class RevokedCertificate(_der.RevokedCertificate):
@@ -112,10 +118,14 @@ class RevokedCertificate(_der.RevokedCertificate):
 
     __slots__ = ()
 
-    user_certificate = _der.field(1, "`userCertificate`, an INTEGER.")
-    crl_entry_extensions = _der.optional(3, "`crlEntryExtensions`, a SEQUENCE OF.")
-    revocation_date = _der.moment(0, "`revocationDate`.")
-    extensions = _der.items(3, "The extensions, in their order.", 1, Extension)
+    user_certificate = _der.field(_places.RevokedCertificate.user_certificate, "`userCertificate`, an INTEGER.")
+    crl_entry_extensions = _der.optional(
+        _places.RevokedCertificate.crl_entry_extensions, "`crlEntryExtensions`, a SEQUENCE OF."
+    )
+    revocation_date = _der.moment(_places.RevokedCertificate.revocation_date_seconds, "`revocationDate`.")
+    extensions = _der.items(
+        _places.RevokedCertificate.crl_entry_extensions, "The extensions, in their order.", 1, Extension
+    )
 
 
 class CertificateList(_der.CertificateList):
@@ -123,16 +133,22 @@ class CertificateList(_der.CertificateList):
 
     __slots__ = ()
 
-    tbs_cert_list = _der.field(0, "`tbsCertList`: what the signature covers.")
-    signature_algorithm = _der.field(1, "`signatureAlgorithm`, an AlgorithmIdentifier.")
-    signature_value = _der.field(2, "`signatureValue`, a BIT STRING.")
-    signature = _der.field(4, "`signature` of what is signed, an AlgorithmIdentifier.")
-    issuer = _der.field(5, "`issuer`, a Name.")
-    this_update = _der.moment(0, "`thisUpdate`.")
-    next_update = _der.optional_moment(1, "`nextUpdate`, if it is there.", 7)
-    version = _der.number(2, "1 or 2.", 1)
-    revoked_certificates = _der.items(8, "The entries, in their order.", 1, RevokedCertificate)
-    extensions = _der.items(9, "The extensions, in their order.", 2, Extension)
+    tbs_cert_list = _der.field(_places.CertificateList.tbs_cert_list, "`tbsCertList`: what the signature covers.")
+    signature_algorithm = _der.field(
+        _places.CertificateList.signature_algorithm, "`signatureAlgorithm`, an AlgorithmIdentifier."
+    )
+    signature_value = _der.field(_places.CertificateList.signature_value, "`signatureValue`, a BIT STRING.")
+    signature = _der.field(_places.CertificateList.signature, "`signature` of what is signed, an AlgorithmIdentifier.")
+    issuer = _der.field(_places.CertificateList.issuer, "`issuer`, a Name.")
+    this_update = _der.moment(_places.CertificateList.this_update_seconds, "`thisUpdate`.")
+    next_update = _der.optional_moment(
+        _places.CertificateList.next_update_seconds, "`nextUpdate`, if it is there.", _places.CertificateList.next_update
+    )
+    version = _der.number(_places.CertificateList.version_number, "1 or 2.", 1)
+    revoked_certificates = _der.items(
+        _places.CertificateList.revoked_certificates, "The entries, in their order.", 1, RevokedCertificate
+    )
+    extensions = _der.items(_places.CertificateList.crl_extensions, "The extensions, in their order.", 2, Extension)
 
 
 class SubjectPublicKeyInfo(_der.SubjectPublicKeyInfo):
@@ -140,8 +156,8 @@ class SubjectPublicKeyInfo(_der.SubjectPublicKeyInfo):
 
     __slots__ = ()
 
-    algorithm = _der.field(0, "`algorithm`, an AlgorithmIdentifier.")
-    subject_public_key = _der.field(1, "`subjectPublicKey`, a BIT STRING.")
+    algorithm = _der.field(_places.SubjectPublicKeyInfo.algorithm, "`algorithm`, an AlgorithmIdentifier.")
+    subject_public_key = _der.field(_places.SubjectPublicKeyInfo.subject_public_key, "`subjectPublicKey`, a BIT STRING.")
 
 
 class PrivateKeyInfo(_der.PrivateKeyInfo):
@@ -149,11 +165,13 @@ class PrivateKeyInfo(_der.PrivateKeyInfo):
 
     __slots__ = ()
 
-    private_key_algorithm = _der.field(1, "`privateKeyAlgorithm`, an AlgorithmIdentifier.")
-    private_key = _der.field(2, "`privateKey`, an OCTET STRING.")
-    attributes = _der.optional(3, "`attributes` with their tag [0].")
-    public_key = _der.optional(4, "`publicKey` with its tag [1].")
-    version = _der.number(0, "1 or 2.", 1)
+    private_key_algorithm = _der.field(
+        _places.PrivateKeyInfo.private_key_algorithm, "`privateKeyAlgorithm`, an AlgorithmIdentifier."
+    )
+    private_key = _der.field(_places.PrivateKeyInfo.private_key, "`privateKey`, an OCTET STRING.")
+    attributes = _der.optional(_places.PrivateKeyInfo.attributes, "`attributes` with their tag [0].")
+    public_key = _der.optional(_places.PrivateKeyInfo.public_key, "`publicKey` with its tag [1].")
+    version = _der.number(_places.PrivateKeyInfo.version_number, "1 or 2.", 1)
 
 
 class AttributeTypeAndValue(_der.AttributeTypeAndValue):
@@ -161,9 +179,11 @@ class AttributeTypeAndValue(_der.AttributeTypeAndValue):
 
     __slots__ = ()
 
-    type = _der.field(1, "`type`, an OBJECT IDENTIFIER.")
-    value = _der.field(2, "`value`, of any type.")
-    identifier = _der.contents_field(1, "The contents octets of `type`: 55 04 03 of commonName.")
+    type = _der.field(_places.AttributeTypeAndValue.type, "`type`, an OBJECT IDENTIFIER.")
+    value = _der.field(_places.AttributeTypeAndValue.value, "`value`, of any type.")
+    identifier = _der.contents_field(
+        _places.AttributeTypeAndValue.type, "The contents octets of `type`: 55 04 03 of commonName."
+    )
 
 
 def name_attributes(name: Octets) -> Iterator[AttributeTypeAndValue]:
@@ -176,9 +196,11 @@ class Attribute(_der.Attribute):
 
     __slots__ = ()
 
-    type = _der.field(1, "`type`, an OBJECT IDENTIFIER.")
-    values = _der.field(2, "`values`, a SET OF.")
-    identifier = _der.contents_field(1, "The contents octets of `type`: 2A 86 48 86 F7 0D 01 09 04 of messageDigest.")
+    type = _der.field(_places.Attribute.type, "`type`, an OBJECT IDENTIFIER.")
+    values = _der.field(_places.Attribute.values, "`values`, a SET OF.")
+    identifier = _der.contents_field(
+        _places.Attribute.type, "The contents octets of `type`: 2A 86 48 86 F7 0D 01 09 04 of messageDigest."
+    )
 
 
 def attributes(field: Octets | None) -> Iterator[Attribute]:
@@ -191,12 +213,18 @@ class CertificationRequest(_der.CertificationRequest):
 
     __slots__ = ()
 
-    certification_request_info = _der.field(0, "`certificationRequestInfo`: what the signature covers.")
-    signature_algorithm = _der.field(1, "`signatureAlgorithm`, an AlgorithmIdentifier.")
-    signature = _der.field(2, "`signature`, a BIT STRING.")
-    subject = _der.field(4, "`subject`, a Name.")
-    subject_pk_info = _der.field(5, "`subjectPKInfo`, which SubjectPublicKeyInfo reads.")
-    attributes = _der.items(6, "The attributes, in their order.", 1, Attribute)
+    certification_request_info = _der.field(
+        _places.CertificationRequest.certification_request_info, "`certificationRequestInfo`: what the signature covers."
+    )
+    signature_algorithm = _der.field(
+        _places.CertificationRequest.signature_algorithm, "`signatureAlgorithm`, an AlgorithmIdentifier."
+    )
+    signature = _der.field(_places.CertificationRequest.signature, "`signature`, a BIT STRING.")
+    subject = _der.field(_places.CertificationRequest.subject, "`subject`, a Name.")
+    subject_pk_info = _der.field(
+        _places.CertificationRequest.subject_pk_info, "`subjectPKInfo`, which SubjectPublicKeyInfo reads."
+    )
+    attributes = _der.items(_places.CertificationRequest.attributes, "The attributes, in their order.", 1, Attribute)
 
 
 class OcspResponse(_der.OcspResponse):
@@ -204,9 +232,15 @@ class OcspResponse(_der.OcspResponse):
 
     __slots__ = ()
 
-    response_type = _der.optional(2, "`responseType` of `responseBytes`, an OBJECT IDENTIFIER.")
-    response = _der.optional(3, "`response` of `responseBytes`, an OCTET STRING, of which BasicOcspResponse reads the contents.")
-    response_status = _der.number(0, "`responseStatus`: 0 for successful, 1 to 3, 5 or 6.")
+    response_type = _der.optional(
+        _places.OcspResponse.response_type, "`responseType` of `responseBytes`, an OBJECT IDENTIFIER."
+    )
+    response = _der.optional(
+        _places.OcspResponse.response, "`response` of `responseBytes`, an OCTET STRING, of which BasicOcspResponse reads the contents."
+    )
+    response_status = _der.number(
+        _places.OcspResponse.response_status_number, "`responseStatus`: 0 for successful, 1 to 3, 5 or 6."
+    )
 
 
 class CertStatus(Enum):
@@ -222,12 +256,16 @@ class SingleResponse(_der.SingleResponse):
 
     __slots__ = ()
 
-    cert_id = _der.field(1, "`certID`.")
-    this_update = _der.moment(0, "`thisUpdate`.")
-    next_update = _der.optional_moment(1, "`nextUpdate`, if it is there.", 4)
-    extensions = _der.items(5, "The extensions, in their order.", 2, Extension)
-    _revocation_time = _der.moment(2, "0 seconds of a certificate that was not revoked.")
-    _cert_status = _der.number(3, "`certStatus` as a number.")
+    cert_id = _der.field(_places.SingleResponse.cert_id, "`certID`.")
+    this_update = _der.moment(_places.SingleResponse.this_update_seconds, "`thisUpdate`.")
+    next_update = _der.optional_moment(
+        _places.SingleResponse.next_update_seconds, "`nextUpdate`, if it is there.", _places.SingleResponse.next_update
+    )
+    extensions = _der.items(_places.SingleResponse.single_extensions, "The extensions, in their order.", 2, Extension)
+    _revocation_time = _der.moment(
+        _places.SingleResponse.revocation_time_seconds, "0 seconds of a certificate that was not revoked."
+    )
+    _cert_status = _der.number(_places.SingleResponse.cert_status_number, "`certStatus` as a number.")
 
     @property
     def cert_status(self) -> CertStatus:
@@ -245,14 +283,20 @@ class BasicOcspResponse(_der.BasicOcspResponse):
 
     __slots__ = ()
 
-    tbs_response_data = _der.field(0, "`tbsResponseData`: what the signature covers.")
-    signature_algorithm = _der.field(1, "`signatureAlgorithm`, an AlgorithmIdentifier.")
-    signature = _der.field(2, "`signature`, a BIT STRING.")
-    certs = _der.optional(3, "`certs` with their tag [0].")
-    responder_id = _der.field(5, "`responderID`, with its tag [1] or [2].")
-    produced_at = _der.moment(0, "`producedAt`.")
-    responses = _der.items(7, "The answers about single certificates, in their order.", 1, SingleResponse)
-    extensions = _der.items(8, "The extensions, in their order.", 2, Extension)
+    tbs_response_data = _der.field(
+        _places.BasicOcspResponse.tbs_response_data, "`tbsResponseData`: what the signature covers."
+    )
+    signature_algorithm = _der.field(
+        _places.BasicOcspResponse.signature_algorithm, "`signatureAlgorithm`, an AlgorithmIdentifier."
+    )
+    signature = _der.field(_places.BasicOcspResponse.signature, "`signature`, a BIT STRING.")
+    certs = _der.optional(_places.BasicOcspResponse.certs, "`certs` with their tag [0].")
+    responder_id = _der.field(_places.BasicOcspResponse.responder_id, "`responderID`, with its tag [1] or [2].")
+    produced_at = _der.moment(_places.BasicOcspResponse.produced_at_seconds, "`producedAt`.")
+    responses = _der.items(
+        _places.BasicOcspResponse.responses, "The answers about single certificates, in their order.", 1, SingleResponse
+    )
+    extensions = _der.items(_places.BasicOcspResponse.response_extensions, "The extensions, in their order.", 2, Extension)
 
 
 class ContentInfo(_der.ContentInfo):
@@ -260,8 +304,8 @@ class ContentInfo(_der.ContentInfo):
 
     __slots__ = ()
 
-    content_type = _der.field(0, "`contentType`, an OBJECT IDENTIFIER.")
-    content = _der.field(1, "`content` with its tag [0], of which SignedData reads the contents.")
+    content_type = _der.field(_places.ContentInfo.content_type, "`contentType`, an OBJECT IDENTIFIER.")
+    content = _der.field(_places.ContentInfo.content, "`content` with its tag [0], of which SignedData reads the contents.")
 
 
 class SignerInfo(_der.SignerInfo):
@@ -269,15 +313,21 @@ class SignerInfo(_der.SignerInfo):
 
     __slots__ = ()
 
-    sid = _der.field(2, "`sid`: a SEQUENCE of issuer and serial number, or with its tag [0] a key's identifier.")
-    digest_algorithm = _der.field(3, "`digestAlgorithm`, an AlgorithmIdentifier.")
-    signed_attrs = _der.optional(4, "`signedAttrs` with their tag [0].")
-    signature_algorithm = _der.field(5, "`signatureAlgorithm`, an AlgorithmIdentifier.")
-    signature = _der.field(6, "`signature`, an OCTET STRING.")
-    unsigned_attrs = _der.optional(7, "`unsignedAttrs` with their tag [1].")
-    version = _der.number(0, "`version`, 0 to 5.")
-    signed_attributes = _der.items(4, "The signed attributes, in their order.", 1, Attribute)
-    unsigned_attributes = _der.items(7, "The unsigned attributes, in their order.", 1, Attribute)
+    sid = _der.field(
+        _places.SignerInfo.sid, "`sid`: a SEQUENCE of issuer and serial number, or with its tag [0] a key's identifier."
+    )
+    digest_algorithm = _der.field(_places.SignerInfo.digest_algorithm, "`digestAlgorithm`, an AlgorithmIdentifier.")
+    signed_attrs = _der.optional(_places.SignerInfo.signed_attrs, "`signedAttrs` with their tag [0].")
+    signature_algorithm = _der.field(
+        _places.SignerInfo.signature_algorithm, "`signatureAlgorithm`, an AlgorithmIdentifier."
+    )
+    signature = _der.field(_places.SignerInfo.signature, "`signature`, an OCTET STRING.")
+    unsigned_attrs = _der.optional(_places.SignerInfo.unsigned_attrs, "`unsignedAttrs` with their tag [1].")
+    version = _der.number(_places.SignerInfo.version_number, "`version`, 0 to 5.")
+    signed_attributes = _der.items(_places.SignerInfo.signed_attrs, "The signed attributes, in their order.", 1, Attribute)
+    unsigned_attributes = _der.items(
+        _places.SignerInfo.unsigned_attrs, "The unsigned attributes, in their order.", 1, Attribute
+    )
 
 
 class SignedData(_der.SignedData):
@@ -285,20 +335,27 @@ class SignedData(_der.SignedData):
 
     __slots__ = ()
 
-    digest_algorithms = _der.field(1, "`digestAlgorithms`, a SET OF.")
-    certificates = _der.optional(3, "`certificates` with their tag [0].")
-    crls = _der.optional(4, "`crls` with their tag [1].")
-    e_content_type = _der.field(6, "`eContentType` of `encapContentInfo`, an OBJECT IDENTIFIER.")
-    e_content = _der.optional(7, "`eContent` of `encapContentInfo` with its tag [0]: an OCTET STRING.")
-    version = _der.number(0, "`version`, 0 to 5.")
-    signer_infos = _der.items(5, "The signers, in their order.", 1, SignerInfo)
+    digest_algorithms = _der.field(_places.SignedData.digest_algorithms, "`digestAlgorithms`, a SET OF.")
+    certificates = _der.optional(_places.SignedData.certificates, "`certificates` with their tag [0].")
+    crls = _der.optional(_places.SignedData.crls, "`crls` with their tag [1].")
+    e_content_type = _der.field(
+        _places.SignedData.e_content_type, "`eContentType` of `encapContentInfo`, an OBJECT IDENTIFIER."
+    )
+    e_content = _der.optional(
+        _places.SignedData.e_content, "`eContent` of `encapContentInfo` with its tag [0]: an OCTET STRING."
+    )
+    version = _der.number(_places.SignedData.version_number, "`version`, 0 to 5.")
+    signer_infos = _der.items(_places.SignedData.signer_infos, "The signers, in their order.", 1, SignerInfo)
+
+
+# written by tools/bindings: rules
 
 
 class CertificateRule(IntFlag):
     """A rule of RFC 5280 for certificates that stands beyond the grammar."""
 
     ALGORITHMS_AGREE = 1 << 0
-    """The algorithm within is the one outside (4.1.1.2)."""
+    """The algorithm within is the one outside (4.1.1.2, 4.1.2.3)."""
     EXTENSIONS_IN_VERSION_3 = 1 << 1
     """Extensions stand in version 3 alone (4.1.2.1)."""
     SERIAL_NUMBER_IS_POSITIVE = 1 << 2
@@ -339,7 +396,7 @@ class ListRule(IntFlag):
     """A rule of RFC 5280 for lists of revoked certificates."""
 
     ALGORITHMS_AGREE = 1 << 0
-    """The algorithm within is the one outside (5.1.1.2)."""
+    """The algorithm within is the one outside (5.1.1.2, 5.1.2.2)."""
     EXTENSIONS_IN_VERSION_2 = 1 << 1
     """Extensions, of the list or of an entry, stand in version 2 alone (5.1.2.1)."""
     ISSUER_IS_NOT_EMPTY = 1 << 2
@@ -349,7 +406,7 @@ class ListRule(IntFlag):
     EMPTY_LIST_IS_ABSENT = 1 << 4
     """A list of no revoked certificates is absent (5.1.2.6)."""
     EXTENSIONS_STAND_ONCE = 1 << 5
-    """Each extension of the list stands once (5.2)."""
+    """Each extension of the list stands once (5.2, 4.2)."""
     CRL_NUMBER_IS_NOT_CRITICAL = 1 << 6
     """cRLNumber is not critical (5.2.3)."""
     DELTA_CRL_INDICATOR_IS_CRITICAL = 1 << 7
@@ -366,6 +423,9 @@ class ListRule(IntFlag):
     """invalidityDate of an entry is not critical (5.3.2)."""
     CERTIFICATE_ISSUER_IS_CRITICAL = 1 << 13
     """certificateIssuer of an entry is critical (5.3.3)."""
+
+
+# end of rules
 
 
 def check_rfc5280(octets: Octets) -> CertificateRule:

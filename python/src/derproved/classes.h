@@ -16,21 +16,23 @@ typedef struct extension_told {
 
 /* What the library says of a message: places, and behind them numbers of 64 bits. */
 typedef union told {
+/* written by tools/bindings: structs */
     der_certificate_at certificate;
+    extension_told extension;
     der_certificate_list_at certificate_list;
+    der_revoked_certificate_at revoked_certificate;
     der_subject_public_key_info_at subject_public_key_info;
     der_private_key_info_at private_key_info;
     der_certification_request_at certification_request;
     der_ocsp_response_at ocsp_response;
     der_basic_ocsp_response_at basic_ocsp_response;
+    der_single_response_at single_response;
     der_content_info_at content_info;
     der_signed_data_at signed_data;
-    der_revoked_certificate_at revoked_certificate;
-    der_single_response_at single_response;
     der_signer_info_at signer_info;
     der_attribute_type_and_value_at attribute_type_and_value;
     der_attribute_at attribute;
-    extension_told extension;
+/* end of structs */
 } told;
 
 /* A kind of messages, which is a class. */

@@ -157,22 +157,26 @@ static PyType_Spec message_spec = {
 
 /* ---- kinds: the library's name, the class, how many places, how many numbers, and whether all of the octets are it */
 
-#define ALL_BUT_EXTENSION(A)                                          \
-    A(certificate, Certificate, 13, 3, true)                          \
-    A(certificate_list, CertificateList, 10, 3, true)                 \
-    A(subject_public_key_info, SubjectPublicKeyInfo, 2, 0, true)      \
-    A(private_key_info, PrivateKeyInfo, 5, 1, true)                   \
-    A(certification_request, CertificationRequest, 7, 0, true)        \
-    A(ocsp_response, OcspResponse, 4, 1, true)                        \
-    A(basic_ocsp_response, BasicOcspResponse, 9, 1, true)             \
-    A(content_info, ContentInfo, 2, 0, true)                          \
-    A(signed_data, SignedData, 8, 1, true)                            \
-    A(revoked_certificate, RevokedCertificate, 4, 1, false)           \
-    A(single_response, SingleResponse, 6, 4, false)                   \
-    A(signer_info, SignerInfo, 8, 1, false)                           \
-    A(attribute_type_and_value, AttributeTypeAndValue, 3, 0, false)   \
+/* written by tools/bindings: kinds */
+#define ALL_BUT_WIDENED(A)                                          \
+    A(certificate, Certificate, 13, 3, true)                        \
+    A(certificate_list, CertificateList, 10, 3, true)               \
+    A(revoked_certificate, RevokedCertificate, 4, 1, false)         \
+    A(subject_public_key_info, SubjectPublicKeyInfo, 2, 0, true)    \
+    A(private_key_info, PrivateKeyInfo, 5, 1, true)                 \
+    A(certification_request, CertificationRequest, 7, 0, true)      \
+    A(ocsp_response, OcspResponse, 4, 1, true)                      \
+    A(basic_ocsp_response, BasicOcspResponse, 9, 1, true)           \
+    A(single_response, SingleResponse, 6, 4, false)                 \
+    A(content_info, ContentInfo, 2, 0, true)                        \
+    A(signed_data, SignedData, 8, 1, true)                          \
+    A(signer_info, SignerInfo, 8, 1, false)                         \
+    A(attribute_type_and_value, AttributeTypeAndValue, 3, 0, false) \
     A(attribute, Attribute, 3, 0, false)
-#define ALL(A) ALL_BUT_EXTENSION(A) A(extension, Extension, 4, 1, false)
+#define ALL(A)                           \
+    ALL_BUT_WIDENED(A)                   \
+    A(extension, Extension, 4, 1, false)
+/* end of kinds */
 
 #define CHECK(name, class, places, numbers, is_all)                                                        \
     static_assert(sizeof(((told *)0)->name) == (places) * sizeof(der_place) + (numbers) * sizeof(uint64_t), \
@@ -195,7 +199,7 @@ static uint32_t read_extension(const uint8_t *octets, size_t len, told *out, der
     {                                                                                           \
         return der_##name(octets, len, &out->name, fault);                                      \
     }
-ALL_BUT_EXTENSION(READS)
+ALL_BUT_WIDENED(READS)
 
 #define INDEX(name, class, places, numbers, is_all) index_of_##name,
 enum { ALL(INDEX) kind_count };

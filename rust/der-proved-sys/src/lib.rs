@@ -23,221 +23,321 @@ pub struct Fault {
     pub position: u32,
 }
 
-/// `der_certificate_at`.
+// written by tools/bindings: structs
+/// Places in a certificate: `der_certificate_at`.
 #[repr(C)]
 #[derive(Clone, Copy, Debug, Default, PartialEq, Eq)]
-#[allow(missing_docs)]
 pub struct CertificateAt {
+    /// What the signature covers.
     pub tbs_certificate: Place,
+    /// AlgorithmIdentifier.
     pub signature_algorithm: Place,
+    /// BIT STRING.
     pub signature_value: Place,
+    /// After its tag \[0\]; absent where it is the default, v1.
     pub version: Place,
+    /// INTEGER.
     pub serial_number: Place,
+    /// AlgorithmIdentifier.
     pub signature: Place,
+    /// Name.
     pub issuer: Place,
+    /// SEQUENCE of both dates.
     pub validity: Place,
+    /// Name.
     pub subject: Place,
+    /// SubjectPublicKeyInfo.
     pub subject_public_key_info: Place,
+    /// With its tag \[1\].
     pub issuer_unique_id: Place,
+    /// With its tag \[2\].
     pub subject_unique_id: Place,
+    /// After their tag \[3\].
     pub extensions: Place,
+    /// In seconds from 1970-01-01T00:00:00Z, with no leap seconds.
     pub not_before: u64,
+    /// The same; the certificate is valid in this second too.
     pub not_after: u64,
+    /// 0 for v1, 1 for v2, 2 for v3.
     pub version_number: u64,
 }
 
-/// `der_extension_at`.
+/// Places in an extension: `der_extension_at`.
 #[repr(C)]
 #[derive(Clone, Copy, Debug, Default, PartialEq, Eq)]
-#[allow(missing_docs)]
 pub struct ExtensionAt {
+    /// The whole extension; the next one begins after it.
     pub whole: Place,
+    /// OBJECT IDENTIFIER.
     pub extn_id: Place,
+    /// BOOLEAN; absent where it is the default, FALSE.
     pub critical: Place,
+    /// OCTET STRING.
     pub extn_value: Place,
+    /// 1 or 0.
     pub is_critical: u32,
 }
 
-/// `der_certificate_list_at`.
+/// Places in a list of revoked certificates: `der_certificate_list_at`.
 #[repr(C)]
 #[derive(Clone, Copy, Debug, Default, PartialEq, Eq)]
-#[allow(missing_docs)]
 pub struct CertificateListAt {
+    /// What the signature covers.
     pub tbs_cert_list: Place,
+    /// AlgorithmIdentifier.
     pub signature_algorithm: Place,
+    /// BIT STRING.
     pub signature_value: Place,
+    /// INTEGER.
     pub version: Place,
+    /// AlgorithmIdentifier.
     pub signature: Place,
+    /// Name.
     pub issuer: Place,
+    /// Time.
     pub this_update: Place,
+    /// Time.
     pub next_update: Place,
+    /// SEQUENCE OF.
     pub revoked_certificates: Place,
+    /// After their tag \[0\].
     pub crl_extensions: Place,
+    /// From 1970-01-01T00:00:00Z.
     pub this_update_seconds: u64,
+    /// 0 where the field is absent.
     pub next_update_seconds: u64,
+    /// 0 for v1, where the field is absent; 1 for v2.
     pub version_number: u64,
 }
 
-/// `der_revoked_certificate_at`.
+/// Places in an entry of a list of revoked certificates: `der_revoked_certificate_at`.
 #[repr(C)]
 #[derive(Clone, Copy, Debug, Default, PartialEq, Eq)]
-#[allow(missing_docs)]
 pub struct RevokedCertificateAt {
+    /// The whole entry; the next one begins after it.
     pub whole: Place,
+    /// INTEGER.
     pub user_certificate: Place,
+    /// Time.
     pub revocation_date: Place,
+    /// SEQUENCE OF.
     pub crl_entry_extensions: Place,
+    /// From 1970-01-01T00:00:00Z.
     pub revocation_date_seconds: u64,
 }
 
-/// `der_subject_public_key_info_at`.
+/// Places in a public key: `der_subject_public_key_info_at`.
 #[repr(C)]
 #[derive(Clone, Copy, Debug, Default, PartialEq, Eq)]
-#[allow(missing_docs)]
 pub struct SubjectPublicKeyInfoAt {
+    /// AlgorithmIdentifier.
     pub algorithm: Place,
+    /// BIT STRING.
     pub subject_public_key: Place,
 }
 
-/// `der_private_key_info_at`.
+/// Places in a private key: `der_private_key_info_at`.
 #[repr(C)]
 #[derive(Clone, Copy, Debug, Default, PartialEq, Eq)]
-#[allow(missing_docs)]
 pub struct PrivateKeyInfoAt {
+    /// INTEGER.
     pub version: Place,
+    /// AlgorithmIdentifier.
     pub private_key_algorithm: Place,
+    /// OCTET STRING.
     pub private_key: Place,
+    /// With their tag \[0\].
     pub attributes: Place,
+    /// With its tag \[1\].
     pub public_key: Place,
+    /// 0 for v1, 1 for v2.
     pub version_number: u64,
 }
 
-/// `der_certification_request_at`.
+/// Places in a request for a certificate: `der_certification_request_at`.
 #[repr(C)]
 #[derive(Clone, Copy, Debug, Default, PartialEq, Eq)]
-#[allow(missing_docs)]
 pub struct CertificationRequestAt {
+    /// What the signature covers.
     pub certification_request_info: Place,
+    /// AlgorithmIdentifier.
     pub signature_algorithm: Place,
+    /// BIT STRING.
     pub signature: Place,
+    /// INTEGER, which is 0.
     pub version: Place,
+    /// Name.
     pub subject: Place,
+    /// SubjectPublicKeyInfo.
     pub subject_pk_info: Place,
+    /// With their tag \[0\].
     pub attributes: Place,
 }
 
-/// `der_ocsp_response_at`.
+/// Places in an OCSP response: `der_ocsp_response_at`.
 #[repr(C)]
 #[derive(Clone, Copy, Debug, Default, PartialEq, Eq)]
-#[allow(missing_docs)]
 pub struct OcspResponseAt {
+    /// ENUMERATED.
     pub response_status: Place,
+    /// After their tag \[0\].
     pub response_bytes: Place,
+    /// OBJECT IDENTIFIER.
     pub response_type: Place,
+    /// OCTET STRING; der_contents returns what der_basic_ocsp_response reads.
     pub response: Place,
+    /// 0 for successful, 1 to 3, 5 or 6.
     pub response_status_number: i64,
 }
 
-/// `der_basic_ocsp_response_at`.
+/// Places in a signed OCSP response: `der_basic_ocsp_response_at`.
 #[repr(C)]
 #[derive(Clone, Copy, Debug, Default, PartialEq, Eq)]
-#[allow(missing_docs)]
 pub struct BasicOcspResponseAt {
+    /// What the signature covers.
     pub tbs_response_data: Place,
+    /// AlgorithmIdentifier.
     pub signature_algorithm: Place,
+    /// BIT STRING.
     pub signature: Place,
+    /// After their tag \[0\].
     pub certs: Place,
+    /// After its tag \[0\]; absent where it is the default, v1.
     pub version: Place,
+    /// CHOICE: after \[1\] a Name, after \[2\] an OCTET STRING.
     pub responder_id: Place,
+    /// GeneralizedTime.
     pub produced_at: Place,
+    /// SEQUENCE OF SingleResponse.
     pub responses: Place,
+    /// After their tag \[1\].
     pub response_extensions: Place,
+    /// From 1970-01-01T00:00:00Z.
     pub produced_at_seconds: u64,
 }
 
-/// `der_single_response_at`.
+/// Places in a response about one certificate: `der_single_response_at`.
 #[repr(C)]
 #[derive(Clone, Copy, Debug, Default, PartialEq, Eq)]
-#[allow(missing_docs)]
 pub struct SingleResponseAt {
+    /// The whole response; the next one begins after it.
     pub whole: Place,
+    /// CertID.
     pub cert_id: Place,
+    /// CHOICE: with its tag \[0\], \[1\] or \[2\].
     pub cert_status: Place,
+    /// GeneralizedTime.
     pub this_update: Place,
+    /// After its tag \[0\].
     pub next_update: Place,
+    /// After their tag \[1\].
     pub single_extensions: Place,
+    /// From 1970-01-01T00:00:00Z.
     pub this_update_seconds: u64,
+    /// 0 where the field is absent.
     pub next_update_seconds: u64,
+    /// 0 of a certificate that is not revoked.
     pub revocation_time_seconds: u64,
+    /// 0 for good, 1 for revoked, 2 for unknown.
     pub cert_status_number: u64,
 }
 
-/// `der_content_info_at`.
+/// Places in a message with its type: `der_content_info_at`.
 #[repr(C)]
 #[derive(Clone, Copy, Debug, Default, PartialEq, Eq)]
-#[allow(missing_docs)]
 pub struct ContentInfoAt {
+    /// OBJECT IDENTIFIER.
     pub content_type: Place,
+    /// After its tag \[0\]; of id-signedData der_contents returns what der_signed_data reads.
     pub content: Place,
 }
 
-/// `der_signed_data_at`.
+/// Places in a signed message: `der_signed_data_at`.
 #[repr(C)]
 #[derive(Clone, Copy, Debug, Default, PartialEq, Eq)]
-#[allow(missing_docs)]
 pub struct SignedDataAt {
+    /// INTEGER.
     pub version: Place,
+    /// SET OF AlgorithmIdentifier.
     pub digest_algorithms: Place,
+    /// SEQUENCE.
     pub encap_content_info: Place,
+    /// With their tag \[0\].
     pub certificates: Place,
+    /// With their tag \[1\].
     pub crls: Place,
+    /// SET OF SignerInfo.
     pub signer_infos: Place,
+    /// OBJECT IDENTIFIER.
     pub e_content_type: Place,
+    /// After its tag \[0\]: an OCTET STRING.
     pub e_content: Place,
+    /// 0 to 5.
     pub version_number: u64,
 }
 
-/// `der_signer_info_at`.
+/// Places in a signer: `der_signer_info_at`.
 #[repr(C)]
 #[derive(Clone, Copy, Debug, Default, PartialEq, Eq)]
-#[allow(missing_docs)]
 pub struct SignerInfoAt {
+    /// The whole signer; the next one begins after it.
     pub whole: Place,
+    /// INTEGER.
     pub version: Place,
+    /// CHOICE: a SEQUENCE of issuer and serial number, or with its tag \[0\] a key's identifier.
     pub sid: Place,
+    /// AlgorithmIdentifier.
     pub digest_algorithm: Place,
+    /// With their tag \[0\].
     pub signed_attrs: Place,
+    /// AlgorithmIdentifier.
     pub signature_algorithm: Place,
+    /// OCTET STRING.
     pub signature: Place,
+    /// With their tag \[1\].
     pub unsigned_attrs: Place,
+    /// 0 to 5.
     pub version_number: u64,
 }
 
-/// `der_attribute_type_and_value_at`.
+/// Places in an attribute of a name: `der_attribute_type_and_value_at`.
 #[repr(C)]
 #[derive(Clone, Copy, Debug, Default, PartialEq, Eq)]
-#[allow(missing_docs)]
 pub struct AttributeTypeAndValueAt {
+    /// The whole attribute; the next one of the same part begins after it.
     pub whole: Place,
+    /// OBJECT IDENTIFIER.
     pub type_: Place,
+    /// Of any type.
     pub value: Place,
 }
 
-/// `der_attribute_at`.
+/// Places in an attribute of a signer, a request or a private key: `der_attribute_at`.
 #[repr(C)]
 #[derive(Clone, Copy, Debug, Default, PartialEq, Eq)]
-#[allow(missing_docs)]
 pub struct AttributeAt {
+    /// The whole attribute; the next one begins after it.
     pub whole: Place,
+    /// OBJECT IDENTIFIER.
     pub type_: Place,
+    /// SET OF.
     pub values: Place,
 }
+// end of structs
 
 #[allow(missing_docs)]
 extern "C" {
     pub fn der_abi_version() -> u32;
+    // written by tools/bindings: calls
     pub fn der_certificate(octets: *const u8, len: usize, out: *mut CertificateAt, fault: *mut Fault) -> u32;
+    pub fn der_extension(octets: *const u8, len: usize, out: *mut ExtensionAt, fault: *mut Fault) -> u32;
     pub fn der_certificate_list(octets: *const u8, len: usize, out: *mut CertificateListAt, fault: *mut Fault) -> u32;
+    pub fn der_revoked_certificate(
+        octets: *const u8,
+        len: usize,
+        out: *mut RevokedCertificateAt,
+        fault: *mut Fault,
+    ) -> u32;
     pub fn der_subject_public_key_info(
         octets: *const u8,
         len: usize,
@@ -245,13 +345,6 @@ extern "C" {
         fault: *mut Fault,
     ) -> u32;
     pub fn der_private_key_info(octets: *const u8, len: usize, out: *mut PrivateKeyInfoAt, fault: *mut Fault) -> u32;
-    pub fn der_extension(octets: *const u8, len: usize, out: *mut ExtensionAt, fault: *mut Fault) -> u32;
-    pub fn der_revoked_certificate(
-        octets: *const u8,
-        len: usize,
-        out: *mut RevokedCertificateAt,
-        fault: *mut Fault,
-    ) -> u32;
     pub fn der_certification_request(
         octets: *const u8,
         len: usize,
@@ -276,6 +369,7 @@ extern "C" {
         fault: *mut Fault,
     ) -> u32;
     pub fn der_attribute(octets: *const u8, len: usize, out: *mut AttributeAt, fault: *mut Fault) -> u32;
+    // end of calls
     pub fn der_check_rfc5280(octets: *const u8, len: usize, broken: *mut u32, fault: *mut Fault) -> u32;
     pub fn der_check_rfc5280_list(octets: *const u8, len: usize, broken: *mut u32, fault: *mut Fault) -> u32;
     pub fn der_canonical(

@@ -27,10 +27,11 @@ macro_rules! rules {
     };
 }
 
+// written by tools/bindings: rules
 rules! {
     /// A rule for certificates.
     CertificateRule {
-        /// The algorithm within is the one outside (4.1.1.2).
+        /// The algorithm within is the one outside (4.1.1.2, 4.1.2.3).
         AlgorithmsAgree "4.1.1.2"
         /// Extensions stand in version 3 alone (4.1.2.1).
         ExtensionsInVersion3 "4.1.2.1"
@@ -72,7 +73,7 @@ rules! {
 rules! {
     /// A rule for lists of revoked certificates.
     ListRule {
-        /// The algorithm within is the one outside (5.1.1.2).
+        /// The algorithm within is the one outside (5.1.1.2, 5.1.2.2).
         AlgorithmsAgree "5.1.1.2"
         /// Extensions, of the list or of an entry, stand in version 2 alone (5.1.2.1).
         ExtensionsInVersion2 "5.1.2.1"
@@ -82,7 +83,7 @@ rules! {
         NextUpdateIsThere "5.1.2.5"
         /// A list of no revoked certificates is absent (5.1.2.6).
         EmptyListIsAbsent "5.1.2.6"
-        /// Each extension of the list stands once (5.2).
+        /// Each extension of the list stands once (5.2, 4.2).
         ExtensionsStandOnce "5.2"
         /// cRLNumber is not critical (5.2.3).
         CrlNumberIsNotCritical "5.2.3"
@@ -102,6 +103,7 @@ rules! {
         CertificateIssuerIsCritical "5.3.3"
     }
 }
+// end of rules
 
 /// The rules that are broken, in their order.
 #[derive(Clone, Debug)]

@@ -1,0 +1,63 @@
+"""The spelling of one name in each language."""
+
+from __future__ import annotations
+
+import re
+
+from .tables.rules import Rule
+from .tables.structs import Field, Struct
+
+PART = re.compile(r"[A-Z][a-z]*|[0-9]+")
+KEYWORDS_OF_RUST = frozenset(["type"])  # of the fields' names
+
+
+def capitals(name: str) -> str:
+    """SerialNumberHasAtMost20Octets as SERIAL_NUMBER_HAS_AT_MOST_20_OCTETS."""
+    return "_".join(PART.findall(name)).upper()
+
+
+def camel(name: str) -> str:
+    """certificate_list as CertificateList."""
+    return "".join(part.capitalize() for part in name.split("_"))
+
+
+def rule_in_c(rule: Rule) -> str:
+    """DER_CERTIFICATE_ISSUER_NOT_EMPTY of IssuerIsNotEmpty."""
+    name = rule.name_in_c or re.sub("_IS_", "_", capitals(rule.name))
+    return f"DER_{rule.kind.upper()}_{name}"
+
+
+def rule_in_go(rule: Rule) -> str:
+    return rule.kind.capitalize() + rule.name
+
+
+def field_in_rust(field: Field) -> str:
+    return f"{field.name}_" if field.name in KEYWORDS_OF_RUST else field.name
+
+
+def struct_in_c(struct: Struct) -> str:
+    return f"der_{struct.name}_at"
+
+
+def struct_in_rust(struct: Struct) -> str:
+    return f"{camel(struct.name)}At"
+
+
+def with_article(noun: str) -> str:
+    """'a certificate', 'an extension'."""
+    return f"{'an' if noun[0] in 'aeioAEIO' else 'a'} {noun}"
+
+
+def capital(sentence: str) -> str:
+    """A sentence that stands alone."""
+    return sentence[0].upper() + sentence[1:]
+
+
+def source(struct: Struct) -> str:
+    """The type of ASN.1, and the standard that has it."""
+    return f"({struct.type}, {struct.standard})"
+
+
+def small(sentence: str) -> str:
+    """A sentence within another."""
+    return sentence[0].lower() + sentence[1:]

@@ -1,0 +1,1 @@
+"""The two tables, as they are read."""

@@ -1,0 +1,72 @@
+"""The table of structs, as the calls of the library for C write them."""
+
+from __future__ import annotations
+
+from dataclasses import dataclass
+
+SIZES = {"place": 8, "u32": 4, "u64": 8, "i64": 8}
+
+
+@dataclass(frozen=True)
+class Field:
+    """A field of a struct: its name in C and in der_c, its type, and a sentence without a full stop."""
+
+    name: str
+    name_in_der_c: str
+    type: str
+    sentence: str
+
+    @property
+    def is_place(self) -> bool:
+        return self.type == "place"
+
+
+@dataclass(frozen=True)
+class Group:
+    """Fields that are one member of the struct of der_c, or one of those of its places; or all numbers."""
+
+    member: str
+    type: str  # of der_c or der_places; '' of numbers
+    within: str  # the field of the message that has these fields; '' of the message itself
+    fields: tuple[Field, ...]
+
+
+@dataclass(frozen=True)
+class Next:
+    """The call of der.h that reads one message after another."""
+
+    name: str
+    is_written: bool
+    left: str  # what is left at first
+
+
+@dataclass(frozen=True)
+class Struct:
+    """A struct, with the call that writes it."""
+
+    name: str
+    type: str  # of ASN.1
+    standard: str  # that has the type, with the section
+    noun: str
+    is_front: bool  # the message stands at the front of the octets
+    next: Next | None
+    notes: tuple[str, ...]
+    results: str
+    groups: tuple[Group, ...]
+
+    @property
+    def places(self) -> list[Field]:
+        return [field for group in self.groups for field in group.fields if field.is_place]
+
+    @property
+    def numbers(self) -> list[Field]:
+        return [field for group in self.groups for field in group.fields if not field.is_place]
+
+    @property
+    def fields(self) -> list[Field]:
+        return self.places + self.numbers
+
+    @property
+    def size(self) -> int:
+        """Its octets in C: fields stand without gaps, which check_layout of reading.py requires."""
+        return sum(SIZES[field.type] for field in self.fields)

@@ -1,0 +1,1 @@
+"""What is written: of each language, the lines of each part."""
