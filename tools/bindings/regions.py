@@ -11,14 +11,18 @@ from pathlib import Path
 
 from .errors import Difference
 
-BEGIN = re.compile(r"written by tools/bindings: ([a-z ]*[a-z])")
-END = re.compile(r"\bend of ([a-z ]*[a-z])")
+MARK = re.compile(r"^ *(?:/\*|//|#|<!--) (written by tools/bindings:|end of) ([a-z ]*[a-z])", re.M)
 
 
-def find(file: str, lines: list[str], name: str) -> tuple[int, int] | Difference:
-    """Where a written part begins and ends in the lines: behind its first comment, and at its last one."""
-    begins = [at for at, line in enumerate(lines) if marked(BEGIN, line) == name]
-    ends = [at for at, line in enumerate(lines) if marked(END, line) == name]
+def marks(text: str) -> list[tuple[int, bool, str]]:
+    """The comments around written parts: the index of the line, whether the part begins there, and its name."""
+    return [(text.count("\n", 0, mark.start()), mark[1] != "end of", mark[2]) for mark in MARK.finditer(text)]
+
+
+def find(file: str, text: str, name: str) -> tuple[int, int] | Difference:
+    """Where a written part begins and ends in the lines: after its first comment, and at its last one."""
+    begins = [line for line, is_begin, of in marks(text) if of == name and is_begin]
+    ends = [line for line, is_begin, of in marks(text) if of == name and not is_begin]
     if len(begins) != 1 or len(ends) != 1:
         return Difference(file, (begins or ends or [0])[-1] + 1, f"the comments around '{name}' stand {len(begins)} and {len(ends)} times")
     if begins[0] > ends[0]:
@@ -26,26 +30,16 @@ def find(file: str, lines: list[str], name: str) -> tuple[int, int] | Difference
     return begins[0] + 1, ends[0]
 
 
-def marked(mark: re.Pattern[str], line: str) -> str | None:
-    """The name in a comment that begins or ends a written part."""
-    found = mark.search(line)
-    return found[1] if found and line.strip()[:2] in ("/*", "//", "# ", "<!") else None
-
-
-def names_of(text: str) -> list[str]:
-    """The names of all written parts of a file."""
-    return [name for line in text.split("\n") if (name := marked(BEGIN, line))]
-
-
 def replaced(file: str, text: str, parts: dict[str, list[str]]) -> str | Difference:
     """The text of a file with other written parts."""
-    lines = text.split("\n")
     for name, written in parts.items():
-        found = find(file, lines, name)
+        found = find(file, text, name)
         if isinstance(found, Difference):
             return found
+        lines = text.split("\n")
         lines[found[0] : found[1]] = written
-    return "\n".join(lines)
+        text = "\n".join(lines)
+    return text
 
 
 def put(root: Path, written: dict[str, dict[str, list[str]]]) -> list[Difference]:
@@ -66,9 +60,10 @@ def compare(root: Path, written: dict[str, dict[str, list[str]]]) -> list[Differ
     """Of each part that is not as it would be written, the first line that differs."""
     wrong = []
     for file, parts in written.items():
-        lines = text_of(root / file).split("\n")
+        text = text_of(root / file)
+        lines = text.split("\n")
         for name, expected in parts.items():
-            found = find(file, lines, name)
+            found = find(file, text, name)
             if isinstance(found, Difference):
                 wrong.append(found)
             elif (there := lines[found[0] : found[1]]) != expected:
@@ -88,7 +83,8 @@ def unknown(root: Path, written: dict[str, dict[str, list[str]]]) -> list[Differ
     """Parts that are marked as written, and that nothing writes."""
     found = []
     for file, parts in written.items():
-        found += [Difference(file, 1, f"nothing writes '{name}'") for name in names_of(text_of(root / file)) if name not in parts]
+        strange = [(line, name) for line, is_begin, name in marks(text_of(root / file)) if is_begin and name not in parts]
+        found += [Difference(file, line + 1, f"nothing writes '{name}'") for line, name in strange]
     return found
 
 

@@ -1,0 +1,114 @@
+"""A change of a table is told of each list that does not follow; then the lists are written, and those of the crates are told."""
+
+from __future__ import annotations
+
+from ..command import RULES, STRUCTS
+from .test_lists import (
+    BITS, FINDINGS, GO, HEADER, LISTS, LISTS_ANTT, PAGE, PLACES, PYTHON, RULES_ANTT, RUST, SECTIONS, SYS, VERIFY,
+)
+from .tree import TreeTest
+
+LANGUAGES = {HEADER, RUST, GO, PYTHON}
+SYNONYM = "list | 3 | NextUpdateIsThere | 5.1.2.5 |"
+LAST = "list | 13 | CertificateIssuerIsCritical | 5.3.3 | certificateIssuer of an entry is critical | an entry with this extension, not critical\n"
+
+
+class ChangedRules(TreeTest):
+    def assert_told(self, old: str, new: str, written: set[str], compared: set[str]) -> None:
+        """Before the lists are written all of these files are told, and afterwards those of the crates alone."""
+        self.change(RULES, old, new)
+        self.assertEqual(self.files_told(), written | compared)
+        self.run_tool()
+        status, lines = self.run_tool("--check")
+        self.assertEqual((status, {line.split(":")[0] for line in lines}), (1 if compared else 0, compared))
+
+    def test_another_name(self) -> None:
+        compared = {LISTS, LISTS_ANTT, SECTIONS, BITS, FINDINGS}
+        self.assert_told(SYNONYM, SYNONYM.replace("IsThere", "Stands"), LANGUAGES | {PAGE}, compared)
+
+    def test_another_section(self) -> None:
+        written = {HEADER, RUST, GO, PYTHON, PAGE}
+        self.assert_told(SYNONYM, SYNONYM.replace("5.1.2.5", "5.1.2.6"), written, {LISTS, SECTIONS})
+
+    def test_a_second_section(self) -> None:
+        self.assert_told(SYNONYM, SYNONYM.replace("5.1.2.5", "5.1.2.5, 5.2"), LANGUAGES, {LISTS})
+
+    def test_another_sentence(self) -> None:
+        self.assert_told("| nameConstraints is critical |", "| nameConstraints is not critical |", LANGUAGES, {VERIFY, FINDINGS})
+
+    def test_another_reason(self) -> None:
+        self.assert_told("| no nextUpdate\n", "| nextUpdate is absent\n", {PAGE}, set())
+
+    def test_another_name_in_c(self) -> None:
+        self.assert_told("C: SERIAL_NUMBER_AT_MOST_20_OCTETS", "C: SERIAL_NUMBER_SHORT", {HEADER}, set())
+
+    def test_another_order(self) -> None:
+        lines = self.text(RULES).split("\n")
+        at = next(at for at, line in enumerate(lines) if line.startswith("certificate | 1 |"))
+        old = "\n".join(lines[at : at + 2]) + "\n"
+        new = lines[at + 1].replace("| 2 |", "| 1 |") + "\n" + lines[at].replace("| 1 |", "| 2 |") + "\n"
+        self.assert_told(old, new, LANGUAGES | {PAGE}, {VERIFY, RULES_ANTT, SECTIONS, BITS})
+
+    def test_a_rule_less(self) -> None:
+        compared = {LISTS, LISTS_ANTT, SECTIONS, BITS, FINDINGS, "docs/C.md"}
+        self.assert_told(LAST, "", LANGUAGES | {PAGE}, compared)
+
+    def test_a_rule_more(self) -> None:
+        more = LAST + "list | 14 | VersionIs2 | 5.1.2.1 | The version is 2 | version 1\n"
+        compared = {LISTS, LISTS_ANTT, SECTIONS, BITS, FINDINGS, "docs/C.md"}
+        self.assert_told(LAST, more, LANGUAGES | {PAGE}, compared)
+
+    def test_a_table_that_cannot_be_read(self) -> None:
+        line = self.change(RULES, SYNONYM, SYNONYM.replace("| 3 |", "| 4 |"))
+        self.assertEqual(self.run_tool(), (1, [f"{RULES}:{line}: error: the next rule of this kind has bit 3, not 4"]))
+
+
+class ChangedStructs(TreeTest):
+    C_OF_PYTHON = {"python/src/derproved/classes.h", "python/src/derproved/message.c", "python/src/derproved/_der.pyi"}
+    PLACES_OF_SIGNER = "crates/der_places/src/cms/signer_info.rt"
+
+    def test_another_name_of_a_place(self) -> None:
+        self.change(STRUCTS, "        sid place CHOICE", "        signer place CHOICE")
+        self.assertEqual(self.files_told(), {HEADER, SYS, PLACES, self.PLACES_OF_SIGNER})
+
+    def test_another_order(self) -> None:
+        self.change(STRUCTS, "        this_update place GeneralizedTime\n        next_update place after its tag [0]\n",
+                    "        next_update place after its tag [0]\n        this_update place GeneralizedTime\n")
+        self.assertEqual(self.files_told(), {HEADER, SYS, PLACES, "crates/der_places/src/ocsp/single_response.rt"})
+
+    def test_another_number(self) -> None:
+        self.change(STRUCTS, "        response_status_number i64", "        response_status_number u64")
+        self.assertEqual(self.files_told(), {HEADER, SYS, "crates/der_c/src/ocsp_response.rt"})
+
+    def test_another_member(self) -> None:
+        self.change(STRUCTS, "    info: CertificationRequestInfoPlaces", "    tbs: CertificationRequestInfoPlaces")
+        self.assertEqual(self.files_told(), {"crates/der_c/src/certification_request.rt"})
+
+    def test_another_sentence(self) -> None:
+        self.change(STRUCTS, "        sid place CHOICE: ", "        sid place one of: ")
+        self.assertEqual(self.files_told(), {HEADER, SYS})
+
+    def test_another_source(self) -> None:
+        self.change(STRUCTS, "signer_info: SignerInfo (RFC 5652 5.3)", "signer_info: SignerInfo (RFC 2630 5.3)")
+        self.assertEqual(self.files_told(), {HEADER, "docs/C.md"})
+
+    def test_other_results(self) -> None:
+        self.change(STRUCTS, "    results: the status\n", "    results: its status\n")
+        self.assertEqual(self.files_told(), {"docs/C.md"})
+
+    def test_a_place_more(self) -> None:
+        self.change(STRUCTS, "        e_content place", "        more place what follows\n        e_content place")
+        expected = {HEADER, SYS, PLACES, "python/src/derproved/message.c", "docs/C.md", "crates/der_places/src/cms/encapsulated_content_info.rt"}
+        self.assertEqual(self.files_told(), expected)
+
+    def test_a_struct_less(self) -> None:
+        text = self.text(STRUCTS)
+        start = text.index("attribute: Attribute ")
+        self.change(STRUCTS, text[start:], "")
+        self.assertEqual(self.files_told(), {HEADER, SYS, PLACES, "docs/C.md", "crates/der_c/src/attribute.rt", *self.C_OF_PYTHON})
+
+    def test_a_struct_more(self) -> None:
+        more = "key: Key (RFC 1 2.3) | key\n    reads: all\n    out: KeyPlaces\n        octets place OCTET STRING\n"
+        text = self.text(STRUCTS)
+        self.change(STRUCTS, text, f"{text}\n{more}")
+        self.assertEqual(self.files_told(), {HEADER, SYS, PLACES, "docs/C.md", "crates/der_c/src", *self.C_OF_PYTHON})

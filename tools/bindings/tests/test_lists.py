@@ -1,0 +1,120 @@
+"""A change of one list, by hand, is told with its file and its line."""
+
+from __future__ import annotations
+
+from .tree import TreeTest
+
+HEADER = "c/include/der.h"
+SYS = "rust/der-proved-sys/src/lib.rs"
+RUST = "rust/der-proved/src/rules.rs"
+GO = "go/der/rules.go"
+PYTHON = "python/src/derproved/__init__.py"
+PLACES = "python/src/derproved/_places.py"
+PAGE = "crates/der_verify/README.md"
+
+VERIFY = "crates/der_verify/src/rfc5280.rt"
+LISTS = "crates/der_verify/src/rfc5280/lists.rt"
+SECTIONS = "crates/der_verify/specs/Sections.antt"
+RULES_ANTT = "crates/der_verify/specs/Rfc5280.antt"
+LISTS_ANTT = "crates/der_verify/specs/Rfc5280Lists.antt"
+BITS = "crates/der_c/src/rfc5280.rt"
+FINDINGS = "crates/certview_text/src/findings.rt"
+
+# file, a text that stands there once, another text, and how many lines below the text's first line it is told
+WRITTEN = [
+    (HEADER, "DER_CERTIFICATE_ISSUER_NOT_EMPTY = 1 << 4", "DER_CERTIFICATE_ISSUER_NOT_EMPTY = 1 << 5", 0),
+    (HEADER, "DER_LIST_NEXT_UPDATE_THERE =", "DER_LIST_NEXT_UPDATE_IS_THERE =", 0),
+    (HEADER, "    der_place encap_content_info; ", "    der_place encapsulated_content; ", 0),
+    (HEADER, "sizeof(der_signer_info_at) == 72", "sizeof(der_signer_info_at) == 80", 0),
+    (HEADER, "uint32_t der_content_info(const", "uint32_t der_content(const", 0),
+    (HEADER, "#define der_extension der_checked_extension\n", "", 0),
+    (HEADER, "    out->cert_id = der_behind(before, out->cert_id);\n", "", 0),
+    (SYS, "    pub responder_id: Place,\n", "", 0),
+    (SYS, "    pub response_status_number: i64,", "    pub response_status_number: u64,", 0),
+    (SYS, "    pub fn der_extension(", "    pub fn der_extensions(", 0),
+    (RUST, '        UniqueIdentifiersInVersion2 "4.1.2.8"', '        UniqueIdentifiersInVersion2 "4.1.2.9"', 0),
+    (RUST, '        NextUpdateIsThere "5.1.2.5"', '        NextUpdate "5.1.2.5"', 0),
+    (GO, "\tCertificateIssuerIsNotEmpty\n", "\tCertificateIssuerNotEmpty\n", 0),
+    (GO, "the issuer is not empty (5.1.2.3)", "the issuer is not empty (5.1.2.4)", 0),
+    (PYTHON, "    SERIAL_NUMBER_IS_POSITIVE = 1 << 2", "    SERIAL_NUMBER_POSITIVE = 1 << 2", 0),
+    (PYTHON, '    """Each extension of the list stands once (5.2, 4.2)."""\n', "", 0),
+    (PLACES, "    subject_public_key = 1\n", "    subject_public_key = 2\n", 0),
+    ("python/src/derproved/_der.pyi", "class SignerInfo(Message): ...\n", "", 0),
+    ("python/src/derproved/classes.h", "    der_attribute_at attribute;\n", "", 0),
+    ("python/src/derproved/message.c", "A(signed_data, SignedData, 8, 1, true) ", "A(signed_data, SignedData, 7, 1, true) ", 0),
+    (PAGE, "| `NameConstraintsIsCritical` | 4.2.1.10 |", "| `NameConstraintsIsCritical` | 4.2.1.11 |", 0),
+    (PAGE, "| `EmptyListIsAbsent` | 5.1.2.6 | an empty", "| `EmptyListIsAbsent` | 5.1.2.6 | a long", 0),
+    ("docs/C.md", "3 fields and 10 of `tbsCertificate`", "3 fields and 9 of `tbsCertificate`", 0),
+]
+COMPARED = [
+    (VERIFY, "    IssuerIsNotEmpty,\n", "    IssuerIsThere,\n", 0),
+    (VERIFY, "/// The issuer is not empty (4.1.2.4).", "/// The issuer is not empty (4.1.2.5).", 1),
+    (VERIFY, "    CertificateRule::IssuerIsNotEmpty,\n", "", 0),
+    (VERIFY, "    CertificateRule::NameConstraintsIsCritical,\n    CertificateRule::PolicyConstraintsIsCritical,\n",
+     "    CertificateRule::PolicyConstraintsIsCritical,\n    CertificateRule::NameConstraintsIsCritical,\n", 0),
+    (VERIFY, 'CertificateRule::ExtensionsStandOnce => "4.2",', 'CertificateRule::ExtensionsStandOnce => "4.1",', 0),
+    (LISTS, "/// nextUpdate is there (5.1.2.5).", "/// nextUpdate is not there (5.1.2.5).", 1),
+    (LISTS, "    ListRule::CertificateIssuerIsCritical,\n", "", 0),
+    (LISTS, 'ListRule::ReasonCodeIsNotCritical => "5.3.1",', 'ListRule::ReasonCodeIsNotCritical => "5.3.2",', 0),
+    (SECTIONS, 'section rule.FreshestCrlIsNotCritical = codes "4.2.1.15"', 'section rule.FreshestCrlIsNotCritical = codes "4.2.1.1"', 0),
+    (SECTIONS, 'list_section list_rule.NextUpdateIsThere = codes "5.1.2.5"\n', "", 0),
+    (RULES_ANTT, "    ∷ rule.ExtensionsStandOnce\n", "", 0),
+    (LISTS_ANTT, "    ∷ rule.EmptyListIsAbsent\n", "    ∷ rule.IssuerIsNotEmpty\n", 0),
+    (BITS, "        CertificateRule::SerialNumberIsPositive.is_broken(alloc, value),\n", "", 0),
+    (BITS, "        ListRule::NextUpdateIsThere.is_broken", "        ListRule::EmptyListIsAbsent.is_broken", 0),
+    (BITS, "        ListRule::NextUpdateIsThere.is_broken", "        !ListRule::NextUpdateIsThere.is_broken", 0),
+    (FINDINGS, "        CertificateRule::IssuerIsNotEmpty =>", "        CertificateRule::IssuerIsThere =>", 0),
+    (FINDINGS, '            is_critical("subjectKeyIdentifier"', '            is_critical("authorityKeyIdentifier"', -1),
+    (FINDINGS, 'is_not_critical("inhibitAnyPolicy"', 'is_critical("inhibitAnyPolicy"', 0),
+    (FINDINGS, '"has a critical reasonCode"', '"has a reasonCode"', -1),
+    (FINDINGS, "        ListRule::CrlNumberIsNotCritical =>", "        ListRule::FreshestCrlIsNotCritical =>", None),
+    ("crates/der_c/src/certificate.rt", "    pub not_before: u64,\n", "", 1),
+    ("crates/der_c/src/certificate.rt", "    pub tbs: TbsCertificatePlaces,", "    pub signed: TbsCertificatePlaces,", 0),
+    ("crates/der_c/src/extension.rt", "    pub is_critical: u32,", "    pub is_critical: u64,", 0),
+    ("crates/der_c/src/keys.rt", "    out: &mut SubjectPublicKeyInfoPlaces,", "    out: &mut PrivateKeyInfoAt,", None),
+    ("crates/der_c/src/signer_info.rt", "pub extern \"C\" fn der_signer_info<'a>(", "pub extern \"C\" fn der_signer<'a>(", None),
+    ("crates/der_c/src/attribute.rt", "#[repr(C)]\n#[derive(Clone, Copy, Debug, PartialEq, Eq)]\npub struct AttributeAt", "pub struct AttributeAt", None),
+    ("crates/der_places/src/cms/signer_info.rt", "    pub sid: Place,", "    pub signer: Place,", 0),
+    ("docs/C.md", "which of 14 rules", "which of 15 rules", 0),
+]
+
+
+class Lists(TreeTest):
+    """The comparison of the tree as it is tells nothing; of a tree with one change, the change."""
+
+    def test_the_tree_as_it_is(self) -> None:
+        self.assertEqual(self.run_tool("--check"), (0, []))
+
+    def assert_told(self, changes: list[tuple[str, str, str, int | None]]) -> None:
+        for file, old, new, below in changes:
+            with self.subTest(file=file, old=old):
+                before = self.text(file)
+                line = self.change(file, old, new)
+                lines = self.told()
+                expected = f"{file}:" if below is None else f"{file}:{line + below}: "
+                self.assertTrue(any(it.startswith(expected) for it in lines), f"{expected} {lines}")
+                (self.root / file).write_text(before, encoding="utf-8")
+        self.assertEqual(self.run_tool("--check"), (0, []))
+
+    def test_of_the_written_lists(self) -> None:
+        self.assert_told(WRITTEN)
+
+    def test_of_the_lists_of_crates(self) -> None:
+        self.assert_told(COMPARED)
+
+    def test_that_each_written_list_is_written_again(self) -> None:
+        for file, old, new, _ in WRITTEN:
+            before = self.text(file)
+            self.change(file, old, new)
+            self.assertEqual(self.run_tool(), (0, []))
+            self.assertEqual(self.text(file), before)
+
+    def test_that_no_list_of_crates_is_written(self) -> None:
+        for file, old, new, _ in COMPARED:
+            with self.subTest(file=file, old=old):
+                before = self.text(file)
+                self.change(file, old, new)
+                after = self.text(file)
+                self.assertEqual(self.run_tool()[0], 1)
+                self.assertEqual(self.text(file), after)
+                (self.root / file).write_text(before, encoding="utf-8")

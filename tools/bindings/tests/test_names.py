@@ -1,0 +1,64 @@
+"""The spelling of names, and lines."""
+
+from __future__ import annotations
+
+import unittest
+
+from ..names import camel, capitals, field_in_rust, rule_in_c, rule_in_go, with_article
+from ..tables.rules import Rule, rules_of
+from ..tables.structs import Field
+from ..wrapping import WIDTH, aligned, call_in_c, call_in_rust, comment_in_c
+from ..writers.structs_in_c import counted
+
+
+def rule(name: str, more: str = "") -> Rule:
+    return rules_of("table.txt", f"list | 0 | {name} | 5.1 | It holds | nothing{more}\n")[0]
+
+
+class Names(unittest.TestCase):
+    def test_of_rules(self) -> None:
+        self.assertEqual(capitals("SerialNumberHasAtMost20Octets"), "SERIAL_NUMBER_HAS_AT_MOST_20_OCTETS")
+        self.assertEqual(capitals("ExtensionsInVersion3"), "EXTENSIONS_IN_VERSION_3")
+        self.assertEqual(rule_in_c(rule("CrlNumberIsNotCritical")), "DER_LIST_CRL_NUMBER_NOT_CRITICAL")
+        self.assertEqual(rule_in_c(rule("IssuerIsNotEmpty", " | C: ISSUER")), "DER_LIST_ISSUER")
+        self.assertEqual(rule_in_c(rule("IsNotEmpty")), "DER_LIST_IS_NOT_EMPTY")
+        self.assertEqual(rule_in_go(rule("IssuerIsNotEmpty")), "ListIssuerIsNotEmpty")
+
+    def test_of_structs(self) -> None:
+        self.assertEqual(camel("certificate_list"), "CertificateList")
+        self.assertEqual(field_in_rust(Field("type", "type", "place", "OBJECT IDENTIFIER")), "type_")
+        self.assertEqual(field_in_rust(Field("types", "types", "place", "SET OF")), "types")
+
+    def test_articles(self) -> None:
+        self.assertEqual([with_article(noun) for noun in ("key", "entry", "OCSP response")], ["a key", "an entry", "an OCSP response"])
+
+
+class Lines(unittest.TestCase):
+    def test_a_comment(self) -> None:
+        self.assertEqual(comment_in_c("One."), ["/* One. */"])
+        lines = comment_in_c("word " * 60, "    ")
+        self.assertEqual([line[:7] for line in lines], ["    /* ", "     * ", "     * "])
+        self.assertTrue(lines[-1].endswith("word */") and all(len(line) <= WIDTH for line in lines))
+        self.assertEqual(" ".join(line[7:] for line in lines), "word " * 60 + "*/")
+
+    def test_a_call_in_c(self) -> None:
+        self.assertEqual(call_in_c("int f(", ["int a", "int b"], ");"), ["int f(int a, int b);"])
+        long = f"int {'b' * 100}"
+        self.assertEqual(call_in_c("int f(", ["int parameter", long, "int c"], ");"), ["int f(int parameter,", f"      {long}, int c);"])
+        fits = f"int {'b' * (WIDTH - len('int f(int a, int );'))}"
+        self.assertEqual(call_in_c("int f(", ["int a", fits], ");"), [f"int f(int a, {fits});"])
+        self.assertEqual(call_in_c("int f(", ["int a", f"{fits}b"], ");"), ["int f(int a,", f"      {fits}b);"])
+
+    def test_a_call_in_rust(self) -> None:
+        self.assertEqual(call_in_rust("    ", "fn f", ["a: u8", "b: u8"], ";"), ["    fn f(a: u8, b: u8);"])
+        long = f"{'b' * 120}: u8"
+        self.assertEqual(call_in_rust("    ", "fn f", ["a: u8", long], ";"), ["    fn f(", "        a: u8,", f"        {long},", "    );"])
+
+    def test_comments_in_one_column(self) -> None:
+        self.assertEqual(aligned([("a;", "/* x */"), ("abc;", "/* y */")]), ["a;   /* x */", "abc; /* y */"])
+
+    def test_counts(self) -> None:
+        place, number, small = (Field("a", "a", type_, "x") for type_ in ("place", "i64", "u32"))
+        self.assertEqual(counted([place]), "1 place")
+        self.assertEqual(counted([place, place, number]), "2 places and 1 number of 64 bits")
+        self.assertEqual(counted([place, small, small]), "1 place and 2 numbers of 32 bits")

@@ -1,0 +1,113 @@
+"""What the tables may not say."""
+
+from __future__ import annotations
+
+import unittest
+
+from ..errors import TableError
+from ..tables.reading import structs_of
+from ..tables.rules import rules_of
+
+FIRST = "certificate | 0 | AlgorithmsAgree | 4.1.1.2, 4.1.2.3 | The algorithms agree | two algorithms\n"
+SECOND = "certificate | 1 | IssuerIsNotEmpty | 4.1.2.4 | The issuer is not empty | an empty issuer | C: ISSUER\n"
+
+HEAD = "key: Key (RFC 1 2.3) | key\n"
+READS = "    reads: all\n"
+OUT = "    out: KeyPlaces\n        octets place OCTET STRING\n"
+NUMBERS = "    numbers:\n        version_number u64 0 for v1\n"
+RESULTS = "    results: the version\n"
+
+
+class Refused(unittest.TestCase):
+    """A table that is refused, by its line and its words."""
+
+    def refused(self, read, text: str) -> str:  # type: ignore[no-untyped-def]
+        with self.assertRaises(TableError) as caught:
+            read("table.txt", text)
+        self.assertTrue(str(caught.exception).startswith(f"table.txt:{caught.exception.line}: error: "))
+        return f"{caught.exception.line} {caught.exception.problem}"
+
+
+class Rules(Refused):
+    def test_a_table(self) -> None:
+        first, second = rules_of("table.txt", f"# rules\n\n{FIRST}{SECOND}")
+        self.assertEqual((first.kind, first.bit, first.name, first.section), ("certificate", 0, "AlgorithmsAgree", "4.1.1.2"))
+        self.assertEqual((first.sections, first.sentence, first.broken_by), ("4.1.1.2, 4.1.2.3", "The algorithms agree", "two algorithms"))
+        self.assertEqual((first.name_in_c, second.name_in_c), (None, "ISSUER"))
+
+    def test_that_each_kind_has_its_own_bits(self) -> None:
+        self.assertEqual([rule.bit for rule in rules_of("table.txt", FIRST + SECOND + FIRST.replace("certificate", "list"))], [0, 1, 0])
+
+    def test_what_is_refused(self) -> None:
+        for old, new, expected in [
+            ("certificate |", "key |", "a rule is of a certificate or of a list"),
+            ("| 0 |", "| first |", "the second part is the rule's bit"),
+            ("| 0 |", "| 1 |", "the next rule of this kind has bit 0, not 1"),
+            ("AlgorithmsAgree", "algorithms_agree", "algorithms_agree is no name of a variant"),
+            ("4.1.1.2, 4.1.2.3", "4.1.1.2 4.1.2.3", "4.1.1.2 4.1.2.3 are no sections"),
+            ("agree |", "agree. |", "the sentence has no full stop"),
+            (" | two algorithms", "", "a rule has six parts, or seven"),
+            ("two algorithms", "", "a rule has six parts, or seven"),
+            ("two algorithms", "two algorithms | ALGORITHMS", "the seventh part is 'C: ' and a name in capital letters"),
+            ("certificate", "    certificate", None),
+            ("certificate", "  certificate", "the spaces before a line are a multiple of four"),
+        ]:
+            with self.subTest(new=new):
+                text = FIRST.replace(old, new, 1)
+                if expected:
+                    self.assertEqual(self.refused(rules_of, f"# a comment\n{text}"), f"2 {expected}")
+                else:
+                    self.assertEqual(len(rules_of("table.txt", text)), 1)
+
+    def test_one_name_twice(self) -> None:
+        text = FIRST + FIRST.replace("| 0 |", "| 1 |")
+        self.assertEqual(self.refused(rules_of, text), "2 another rule has the name AlgorithmsAgree")
+
+    def test_a_rule_too_many(self) -> None:
+        names = "ABCDEFGHIJKLMNOPQRSTUVWXYZ"
+        lines = [f"list | {at} | {names[at % 26] * (1 + at // 26)} | 5.1 | It holds | nothing\n" for at in range(33)]
+        self.assertEqual(len(rules_of("table.txt", "".join(lines[:32]))), 32)
+        self.assertEqual(self.refused(rules_of, "".join(lines)), "33 a number of 32 bits has no bit for this rule")
+
+
+class Structs(Refused):
+    def test_a_table(self) -> None:
+        (struct,) = structs_of("table.txt", HEAD + READS + RESULTS + OUT + NUMBERS)
+        self.assertEqual((struct.name, struct.type, struct.standard, struct.noun), ("key", "Key", "RFC 1 2.3", "key"))
+        self.assertEqual([(it.name, it.name_in_der_c, it.type) for it in struct.fields],
+                         [("octets", "octets", "place"), ("version_number", "version", "u64")])
+        self.assertEqual((struct.is_front, struct.next, struct.size, struct.results), (False, None, 16, "the version"))
+
+    def test_what_is_refused(self) -> None:
+        whole = "    whole: Place\n        whole place the whole\n"
+        front = HEAD + "    reads: front\n"
+        next_ = "    next: written; the items\n"
+        for text, expected in [
+            ("key: Key | key\n", "1 a struct begins with 'NAME: TYPE (STANDARD) | what it is'"),
+            (READS, "1 this line belongs to none before it"),
+            (HEAD + READS + OUT + HEAD + READS + OUT, "5 another struct has the name key"),
+            (HEAD + "    reads: some\n" + OUT, "1 key: 'reads:' says all or front"),
+            (HEAD + OUT, "1 key: 'reads:' says all or front"),
+            (HEAD + "    all octets\n" + OUT, "2 a word and a colon stand here"),
+            (HEAD + READS + "        octets place OCTET STRING\n", "2 'reads:' has a text, and no fields"),
+            (HEAD + READS + "    out:\n        octets place OCTET STRING\n", "3 a member has a type of der_c or der_places, and 'numbers' has none"),
+            (HEAD + READS + "    out: KeyPlaces\n", "3 out has no fields"),
+            (HEAD + READS + OUT.replace("place", "octets"), "4 a field has a name, a type (place, u32, u64 or i64) and a sentence"),
+            (HEAD + READS + OUT.replace("STRING", "STRING."), "4 the sentence has no full stop"),
+            (HEAD + READS + OUT.replace("place", "u32"), "3 places are fields of a member, and numbers those of 'numbers'"),
+            (HEAD + READS + OUT + "        octets place the same\n", "1 key: two fields have one name"),
+            (HEAD + READS + RESULTS + NUMBERS, "1 key: it has no places"),
+            (HEAD + READS + RESULTS + NUMBERS + OUT, "1 key: numbers stand after the places"),
+            (HEAD + READS + OUT + NUMBERS, "1 key: 'results:' says what the numbers are"),
+            (HEAD + READS + RESULTS + OUT, "1 key: 'results:' says what the numbers are"),
+            (HEAD + READS + whole + OUT, "1 key: the place 'whole' stands first, at the front alone"),
+            (front + next_ + OUT, "1 key: the place 'whole' stands first, at the front alone"),
+            (front + whole + OUT, "1 key: 'next:' is said of those at the front, and of no other"),
+            (HEAD + READS + next_ + OUT, "1 key: 'next:' is said of those at the front, and of no other"),
+            (front + "    next: written\n" + whole + OUT,
+             "1 'next:' says 'written; ' and what is left at first, or 'by hand ' and the name of the call"),
+            (HEAD + READS + RESULTS + OUT + "    numbers:\n        a u32 one\n        b u64 two\n", "1 key: there is a gap before b"),
+            (HEAD + READS + RESULTS + OUT + "    numbers:\n        b u64 two\n        a u32 one\n", "1 key: there is a gap after the last field"),
+        ]:
+            with self.subTest(expected=expected):
+                self.assertEqual(self.refused(structs_of, text), expected)
