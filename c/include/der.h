@@ -147,20 +147,20 @@ typedef struct der_fault {
 /* Places in a certificate (Certificate, RFC 5280 4.1) */
 typedef struct der_certificate_at {
     der_place tbs_certificate;     /* what the signature covers */
-    der_place signature_algorithm; /* AlgorithmIdentifier */
-    der_place signature_value;     /* BIT STRING */
+    der_place signature_algorithm; /* an AlgorithmIdentifier */
+    der_place signature_value;     /* a BIT STRING */
 
     /* the fields of tbsCertificate */
-    der_place version;                 /* after its tag [0]; absent where it is the default, v1 */
-    der_place serial_number;           /* INTEGER */
-    der_place signature;               /* AlgorithmIdentifier */
-    der_place issuer;                  /* Name */
-    der_place validity;                /* SEQUENCE of both dates */
-    der_place subject;                 /* Name */
-    der_place subject_public_key_info; /* SubjectPublicKeyInfo */
-    der_place issuer_unique_id;        /* with its tag [1] */
-    der_place subject_unique_id;       /* with its tag [2] */
-    der_place extensions;              /* after their tag [3] */
+    der_place version;                 /* with its explicit tag [0]; absent where it is the default, v1 */
+    der_place serial_number;           /* an INTEGER */
+    der_place signature;               /* an AlgorithmIdentifier */
+    der_place issuer;                  /* a Name */
+    der_place validity;                /* a SEQUENCE of both dates */
+    der_place subject;                 /* a Name */
+    der_place subject_public_key_info; /* a SubjectPublicKeyInfo */
+    der_place issuer_unique_id;        /* with its implicit tag [1] */
+    der_place subject_unique_id;       /* with its implicit tag [2] */
+    der_place extensions;              /* with their explicit tag [3] */
 
     uint64_t not_before;     /* in seconds from 1970-01-01T00:00:00Z, with no leap seconds */
     uint64_t not_after;      /* the same; the certificate is valid in this second too */
@@ -170,9 +170,9 @@ typedef struct der_certificate_at {
 /* Places in an extension (Extension, RFC 5280 4.2) */
 typedef struct der_extension_at {
     der_place whole;      /* the whole extension; the next one begins after it */
-    der_place extn_id;    /* OBJECT IDENTIFIER */
-    der_place critical;   /* BOOLEAN; absent where it is the default, FALSE */
-    der_place extn_value; /* OCTET STRING */
+    der_place extn_id;    /* an OBJECT IDENTIFIER */
+    der_place critical;   /* a BOOLEAN; absent where it is the default, FALSE */
+    der_place extn_value; /* an OCTET STRING */
 
     uint32_t is_critical; /* 1 or 0 */
 } der_extension_at;
@@ -180,17 +180,17 @@ typedef struct der_extension_at {
 /* Places in a list of revoked certificates (CertificateList, RFC 5280 5.1) */
 typedef struct der_certificate_list_at {
     der_place tbs_cert_list;       /* what the signature covers */
-    der_place signature_algorithm; /* AlgorithmIdentifier */
-    der_place signature_value;     /* BIT STRING */
+    der_place signature_algorithm; /* an AlgorithmIdentifier */
+    der_place signature_value;     /* a BIT STRING */
 
     /* the fields of tbsCertList */
-    der_place version;              /* INTEGER */
-    der_place signature;            /* AlgorithmIdentifier */
-    der_place issuer;               /* Name */
-    der_place this_update;          /* Time */
-    der_place next_update;          /* Time */
-    der_place revoked_certificates; /* SEQUENCE OF */
-    der_place crl_extensions;       /* after their tag [0] */
+    der_place version;              /* an INTEGER */
+    der_place signature;            /* an AlgorithmIdentifier */
+    der_place issuer;               /* a Name */
+    der_place this_update;          /* a Time */
+    der_place next_update;          /* a Time */
+    der_place revoked_certificates; /* a SEQUENCE OF */
+    der_place crl_extensions;       /* with their explicit tag [0] */
 
     uint64_t this_update_seconds; /* from 1970-01-01T00:00:00Z */
     uint64_t next_update_seconds; /* 0 where the field is absent */
@@ -200,26 +200,26 @@ typedef struct der_certificate_list_at {
 /* Places in an entry of a list of revoked certificates (RevokedCertificate, RFC 5280 5.1.2.6) */
 typedef struct der_revoked_certificate_at {
     der_place whole;                /* the whole entry; the next one begins after it */
-    der_place user_certificate;     /* INTEGER */
-    der_place revocation_date;      /* Time */
-    der_place crl_entry_extensions; /* SEQUENCE OF */
+    der_place user_certificate;     /* an INTEGER */
+    der_place revocation_date;      /* a Time */
+    der_place crl_entry_extensions; /* a SEQUENCE OF */
 
     uint64_t revocation_date_seconds; /* from 1970-01-01T00:00:00Z */
 } der_revoked_certificate_at;
 
 /* Places in a public key (SubjectPublicKeyInfo, RFC 5280 4.1.2.7) */
 typedef struct der_subject_public_key_info_at {
-    der_place algorithm;          /* AlgorithmIdentifier */
-    der_place subject_public_key; /* BIT STRING */
+    der_place algorithm;          /* an AlgorithmIdentifier */
+    der_place subject_public_key; /* a BIT STRING */
 } der_subject_public_key_info_at;
 
 /* Places in a private key (PrivateKeyInfo, RFC 5958 section 2) */
 typedef struct der_private_key_info_at {
-    der_place version;               /* INTEGER */
-    der_place private_key_algorithm; /* AlgorithmIdentifier */
-    der_place private_key;           /* OCTET STRING */
-    der_place attributes;            /* with their tag [0] */
-    der_place public_key;            /* with its tag [1] */
+    der_place version;               /* an INTEGER */
+    der_place private_key_algorithm; /* an AlgorithmIdentifier */
+    der_place private_key;           /* an OCTET STRING */
+    der_place attributes;            /* with their implicit tag [0] */
+    der_place public_key;            /* with its implicit tag [1] */
 
     uint64_t version_number; /* 0 for v1, 1 for v2 */
 } der_private_key_info_at;
@@ -227,24 +227,24 @@ typedef struct der_private_key_info_at {
 /* Places in a request for a certificate (CertificationRequest, RFC 2986 4.2) */
 typedef struct der_certification_request_at {
     der_place certification_request_info; /* what the signature covers */
-    der_place signature_algorithm;        /* AlgorithmIdentifier */
-    der_place signature;                  /* BIT STRING */
+    der_place signature_algorithm;        /* an AlgorithmIdentifier */
+    der_place signature;                  /* a BIT STRING */
 
     /* the fields of certificationRequestInfo */
-    der_place version;         /* INTEGER, which is 0 */
-    der_place subject;         /* Name */
-    der_place subject_pk_info; /* SubjectPublicKeyInfo */
-    der_place attributes;      /* with their tag [0] */
+    der_place version;         /* an INTEGER, which is 0 */
+    der_place subject;         /* a Name */
+    der_place subject_pk_info; /* a SubjectPublicKeyInfo */
+    der_place attributes;      /* with their implicit tag [0] */
 } der_certification_request_at;
 
 /* Places in an OCSP response (OCSPResponse, RFC 6960 4.2.1) */
 typedef struct der_ocsp_response_at {
-    der_place response_status; /* ENUMERATED */
-    der_place response_bytes;  /* after their tag [0] */
+    der_place response_status; /* an ENUMERATED */
+    der_place response_bytes;  /* with their explicit tag [0] */
 
     /* the fields of responseBytes */
-    der_place response_type; /* OBJECT IDENTIFIER */
-    der_place response;      /* OCTET STRING; der_contents returns what der_basic_ocsp_response reads */
+    der_place response_type; /* an OBJECT IDENTIFIER */
+    der_place response;      /* an OCTET STRING; if responseType is id-pkix-ocsp-basic, a BasicOCSPResponse is to be read from its contents octets */
 
     int64_t response_status_number; /* 0 for successful, 1 to 3, 5 or 6 */
 } der_ocsp_response_at;
@@ -252,16 +252,16 @@ typedef struct der_ocsp_response_at {
 /* Places in a signed OCSP response (BasicOCSPResponse, RFC 6960 4.2.1) */
 typedef struct der_basic_ocsp_response_at {
     der_place tbs_response_data;   /* what the signature covers */
-    der_place signature_algorithm; /* AlgorithmIdentifier */
-    der_place signature;           /* BIT STRING */
-    der_place certs;               /* after their tag [0] */
+    der_place signature_algorithm; /* an AlgorithmIdentifier */
+    der_place signature;           /* a BIT STRING */
+    der_place certs;               /* with their explicit tag [0] */
 
     /* the fields of tbsResponseData */
-    der_place version;             /* after its tag [0]; absent where it is the default, v1 */
-    der_place responder_id;        /* CHOICE: after [1] a Name, after [2] an OCTET STRING */
-    der_place produced_at;         /* GeneralizedTime */
-    der_place responses;           /* SEQUENCE OF SingleResponse */
-    der_place response_extensions; /* after their tag [1] */
+    der_place version;             /* with its explicit tag [0]; absent where it is the default, v1 */
+    der_place responder_id;        /* a CHOICE: with the explicit tag [1] a Name, with the explicit tag [2] an OCTET STRING */
+    der_place produced_at;         /* a GeneralizedTime */
+    der_place responses;           /* a SEQUENCE OF SingleResponse */
+    der_place response_extensions; /* with their explicit tag [1] */
 
     uint64_t produced_at_seconds; /* from 1970-01-01T00:00:00Z */
 } der_basic_ocsp_response_at;
@@ -269,11 +269,11 @@ typedef struct der_basic_ocsp_response_at {
 /* Places in a response about one certificate (SingleResponse, RFC 6960 4.2.1) */
 typedef struct der_single_response_at {
     der_place whole;             /* the whole response; the next one begins after it */
-    der_place cert_id;           /* CertID */
-    der_place cert_status;       /* CHOICE: with its tag [0], [1] or [2] */
-    der_place this_update;       /* GeneralizedTime */
-    der_place next_update;       /* after its tag [0] */
-    der_place single_extensions; /* after their tag [1] */
+    der_place cert_id;           /* a CertID */
+    der_place cert_status;       /* a CHOICE: with its implicit tag [0], [1] or [2] */
+    der_place this_update;       /* a GeneralizedTime */
+    der_place next_update;       /* with its explicit tag [0] */
+    der_place single_extensions; /* with their explicit tag [1] */
 
     uint64_t this_update_seconds;     /* from 1970-01-01T00:00:00Z */
     uint64_t next_update_seconds;     /* 0 where the field is absent */
@@ -283,22 +283,22 @@ typedef struct der_single_response_at {
 
 /* Places in a message with its type (ContentInfo, RFC 5652 section 3) */
 typedef struct der_content_info_at {
-    der_place content_type; /* OBJECT IDENTIFIER */
-    der_place content;      /* after its tag [0]; of id-signedData der_contents returns what der_signed_data reads */
+    der_place content_type; /* an OBJECT IDENTIFIER */
+    der_place content;      /* with its explicit tag [0]; if contentType is id-signedData, a SignedData is to be read from its contents octets */
 } der_content_info_at;
 
 /* Places in a signed message (SignedData, RFC 5652 5.1) */
 typedef struct der_signed_data_at {
-    der_place version;            /* INTEGER */
-    der_place digest_algorithms;  /* SET OF AlgorithmIdentifier */
-    der_place encap_content_info; /* SEQUENCE */
-    der_place certificates;       /* with their tag [0] */
-    der_place crls;               /* with their tag [1] */
-    der_place signer_infos;       /* SET OF SignerInfo */
+    der_place version;            /* an INTEGER */
+    der_place digest_algorithms;  /* a SET OF AlgorithmIdentifier */
+    der_place encap_content_info; /* a SEQUENCE */
+    der_place certificates;       /* with their implicit tag [0] */
+    der_place crls;               /* with their implicit tag [1] */
+    der_place signer_infos;       /* a SET OF SignerInfo */
 
     /* the fields of encapContentInfo */
-    der_place e_content_type; /* OBJECT IDENTIFIER */
-    der_place e_content;      /* after its tag [0]: an OCTET STRING */
+    der_place e_content_type; /* an OBJECT IDENTIFIER */
+    der_place e_content;      /* an OCTET STRING with its explicit tag [0] */
 
     uint64_t version_number; /* 0 to 5 */
 } der_signed_data_at;
@@ -306,13 +306,13 @@ typedef struct der_signed_data_at {
 /* Places in a signer (SignerInfo, RFC 5652 5.3) */
 typedef struct der_signer_info_at {
     der_place whole;               /* the whole signer; the next one begins after it */
-    der_place version;             /* INTEGER */
-    der_place sid;                 /* CHOICE: a SEQUENCE of issuer and serial number, or with its tag [0] a key's identifier */
-    der_place digest_algorithm;    /* AlgorithmIdentifier */
-    der_place signed_attrs;        /* with their tag [0] */
-    der_place signature_algorithm; /* AlgorithmIdentifier */
-    der_place signature;           /* OCTET STRING */
-    der_place unsigned_attrs;      /* with their tag [1] */
+    der_place version;             /* an INTEGER */
+    der_place sid;                 /* a CHOICE: a SEQUENCE of issuer and serial number, or with its implicit tag [0] a key's identifier */
+    der_place digest_algorithm;    /* an AlgorithmIdentifier */
+    der_place signed_attrs;        /* with their implicit tag [0] */
+    der_place signature_algorithm; /* an AlgorithmIdentifier */
+    der_place signature;           /* an OCTET STRING */
+    der_place unsigned_attrs;      /* with their implicit tag [1] */
 
     uint64_t version_number; /* 0 to 5 */
 } der_signer_info_at;
@@ -320,7 +320,7 @@ typedef struct der_signer_info_at {
 /* Places in an attribute of a name (AttributeTypeAndValue, RFC 5280 4.1.2.4) */
 typedef struct der_attribute_type_and_value_at {
     der_place whole; /* the whole attribute; the next one of the same part begins after it */
-    der_place type;  /* OBJECT IDENTIFIER */
+    der_place type;  /* an OBJECT IDENTIFIER */
     der_place value; /* of any type */
 } der_attribute_type_and_value_at;
 
@@ -328,8 +328,8 @@ typedef struct der_attribute_type_and_value_at {
  * section 2) */
 typedef struct der_attribute_at {
     der_place whole;  /* the whole attribute; the next one begins after it */
-    der_place type;   /* OBJECT IDENTIFIER */
-    der_place values; /* SET OF */
+    der_place type;   /* an OBJECT IDENTIFIER */
+    der_place values; /* a SET OF */
 } der_attribute_at;
 
 static_assert(sizeof(der_certificate_at) == 128, "13 places and 3 numbers of 64 bits");

@@ -12,14 +12,18 @@ type AttributeTypeAndValue struct {
 // Octets gives the whole attribute.
 func (a AttributeTypeAndValue) Octets() []byte { return a.octets }
 
-// Type gives type, an OBJECT IDENTIFIER.
+// written by tools/bindings: fields of AttributeTypeAndValue
+
+// Type returns type, an OBJECT IDENTIFIER.
 func (a AttributeTypeAndValue) Type() []byte { return at(a.octets, a.at._type) }
+
+// Value returns value, of any type.
+func (a AttributeTypeAndValue) Value() []byte { return at(a.octets, a.at.value) }
+
+// end of fields of AttributeTypeAndValue
 
 // Identifier gives the contents octets of type: 55 04 03 of commonName.
 func (a AttributeTypeAndValue) Identifier() []byte { return Contents(a.Type()) }
-
-// Value gives value, of any type.
-func (a AttributeTypeAndValue) Value() []byte { return at(a.octets, a.at.value) }
 
 // NameAttributes gives the attributes of a name that was read, as the issuer of a certificate, in their order.
 func NameAttributes(name []byte) ([]AttributeTypeAndValue, error) {
@@ -70,14 +74,18 @@ type Attribute struct {
 // Octets gives the whole attribute.
 func (a Attribute) Octets() []byte { return a.octets }
 
-// Type gives type, an OBJECT IDENTIFIER.
+// written by tools/bindings: fields of Attribute
+
+// Type returns type, an OBJECT IDENTIFIER.
 func (a Attribute) Type() []byte { return at(a.octets, a.at._type) }
+
+// Values returns values, a SET OF.
+func (a Attribute) Values() []byte { return at(a.octets, a.at.values) }
+
+// end of fields of Attribute
 
 // Identifier gives the contents octets of type: 2A 86 48 86 F7 0D 01 09 04 of messageDigest.
 func (a Attribute) Identifier() []byte { return Contents(a.Type()) }
-
-// Values gives values, a SET OF.
-func (a Attribute) Values() []byte { return at(a.octets, a.at.values) }
 
 // readAttribute reads the attribute at the front of octets, and says how many it has.
 func readAttribute(octets []byte) (Attribute, int, error) {

@@ -25,40 +25,44 @@ func ReadCertificate(octets []byte) (*Certificate, error) {
 // Octets gives the whole certificate.
 func (c *Certificate) Octets() []byte { return c.octets }
 
-// TBSCertificate gives tbsCertificate: what the signature covers.
+// written by tools/bindings: fields of Certificate
+
+// TBSCertificate returns tbsCertificate, what the signature covers.
 func (c *Certificate) TBSCertificate() []byte { return at(c.octets, c.at.tbs_certificate) }
 
-// SignatureAlgorithm gives signatureAlgorithm, an AlgorithmIdentifier.
+// SignatureAlgorithm returns signatureAlgorithm, an AlgorithmIdentifier.
 func (c *Certificate) SignatureAlgorithm() []byte { return at(c.octets, c.at.signature_algorithm) }
 
-// SignatureValue gives signatureValue, a BIT STRING.
+// SignatureValue returns signatureValue, a BIT STRING.
 func (c *Certificate) SignatureValue() []byte { return at(c.octets, c.at.signature_value) }
 
-// SerialNumber gives serialNumber, an INTEGER.
+// SerialNumber returns serialNumber of tbsCertificate, an INTEGER.
 func (c *Certificate) SerialNumber() []byte { return at(c.octets, c.at.serial_number) }
 
-// Signature gives signature of what is signed, an AlgorithmIdentifier.
+// Signature returns signature of tbsCertificate, an AlgorithmIdentifier.
 func (c *Certificate) Signature() []byte { return at(c.octets, c.at.signature) }
 
-// Issuer gives issuer, a Name.
+// Issuer returns issuer of tbsCertificate, a Name.
 func (c *Certificate) Issuer() []byte { return at(c.octets, c.at.issuer) }
 
-// Validity gives validity.
+// Validity returns validity of tbsCertificate, a SEQUENCE of both dates.
 func (c *Certificate) Validity() []byte { return at(c.octets, c.at.validity) }
 
-// Subject gives subject, a Name.
+// Subject returns subject of tbsCertificate, a Name.
 func (c *Certificate) Subject() []byte { return at(c.octets, c.at.subject) }
 
-// SubjectPublicKeyInfo gives subjectPublicKeyInfo, which ReadSubjectPublicKeyInfo reads.
+// SubjectPublicKeyInfo returns subjectPublicKeyInfo of tbsCertificate, a SubjectPublicKeyInfo.
 func (c *Certificate) SubjectPublicKeyInfo() []byte {
 	return at(c.octets, c.at.subject_public_key_info)
 }
 
-// IssuerUniqueID gives issuerUniqueID with its tag [1]; nil where it is absent.
+// IssuerUniqueID returns issuerUniqueID of tbsCertificate, with its implicit tag [1]; nil if absent.
 func (c *Certificate) IssuerUniqueID() []byte { return at(c.octets, c.at.issuer_unique_id) }
 
-// SubjectUniqueID gives subjectUniqueID with its tag [2]; nil where it is absent.
+// SubjectUniqueID returns subjectUniqueID of tbsCertificate, with its implicit tag [2]; nil if absent.
 func (c *Certificate) SubjectUniqueID() []byte { return at(c.octets, c.at.subject_unique_id) }
+
+// end of fields of Certificate
 
 // Version is 1, 2 or 3: one more than the number that stands in version.
 func (c *Certificate) Version() int { return int(c.at.version_number) + 1 }
@@ -83,11 +87,15 @@ type Extension struct {
 // Octets gives the whole extension.
 func (e Extension) Octets() []byte { return e.octets }
 
-// ExtnID gives extnID, an OBJECT IDENTIFIER.
+// written by tools/bindings: fields of Extension
+
+// ExtnID returns extnID, an OBJECT IDENTIFIER.
 func (e Extension) ExtnID() []byte { return at(e.octets, e.at.extn_id) }
 
-// ExtnValue gives extnValue, an OCTET STRING.
+// ExtnValue returns extnValue, an OCTET STRING.
 func (e Extension) ExtnValue() []byte { return at(e.octets, e.at.extn_value) }
+
+// end of fields of Extension
 
 // Identifier gives the contents octets of extnID: 55 1D 0F of keyUsage.
 func (e Extension) Identifier() []byte { return Contents(e.ExtnID()) }

@@ -24,46 +24,52 @@ func ReadCertificateList(octets []byte) (*CertificateList, error) {
 }
 
 // Octets gives the whole list.
-func (l *CertificateList) Octets() []byte { return l.octets }
+func (c *CertificateList) Octets() []byte { return c.octets }
 
-// TBSCertList gives tbsCertList: what the signature covers.
-func (l *CertificateList) TBSCertList() []byte { return at(l.octets, l.at.tbs_cert_list) }
+// written by tools/bindings: fields of CertificateList
 
-// SignatureAlgorithm gives signatureAlgorithm, an AlgorithmIdentifier.
-func (l *CertificateList) SignatureAlgorithm() []byte { return at(l.octets, l.at.signature_algorithm) }
+// TBSCertList returns tbsCertList, what the signature covers.
+func (c *CertificateList) TBSCertList() []byte { return at(c.octets, c.at.tbs_cert_list) }
 
-// SignatureValue gives signatureValue, a BIT STRING.
-func (l *CertificateList) SignatureValue() []byte { return at(l.octets, l.at.signature_value) }
+// SignatureAlgorithm returns signatureAlgorithm, an AlgorithmIdentifier.
+func (c *CertificateList) SignatureAlgorithm() []byte {
+	return at(c.octets, c.at.signature_algorithm)
+}
 
-// Signature gives signature of what is signed, an AlgorithmIdentifier.
-func (l *CertificateList) Signature() []byte { return at(l.octets, l.at.signature) }
+// SignatureValue returns signatureValue, a BIT STRING.
+func (c *CertificateList) SignatureValue() []byte { return at(c.octets, c.at.signature_value) }
 
-// Issuer gives issuer, a Name.
-func (l *CertificateList) Issuer() []byte { return at(l.octets, l.at.issuer) }
+// Signature returns signature of tbsCertList, an AlgorithmIdentifier.
+func (c *CertificateList) Signature() []byte { return at(c.octets, c.at.signature) }
+
+// Issuer returns issuer of tbsCertList, a Name.
+func (c *CertificateList) Issuer() []byte { return at(c.octets, c.at.issuer) }
+
+// end of fields of CertificateList
 
 // Version is 1 or 2: one more than the number that stands in version.
-func (l *CertificateList) Version() int { return int(l.at.version_number) + 1 }
+func (c *CertificateList) Version() int { return int(c.at.version_number) + 1 }
 
 // ThisUpdate gives thisUpdate.
-func (l *CertificateList) ThisUpdate() time.Time { return seconds(l.at.this_update_seconds) }
+func (c *CertificateList) ThisUpdate() time.Time { return seconds(c.at.this_update_seconds) }
 
 // NextUpdate gives nextUpdate, and whether it is there.
-func (l *CertificateList) NextUpdate() (time.Time, bool) {
-	if l.at.next_update.length == 0 {
+func (c *CertificateList) NextUpdate() (time.Time, bool) {
+	if c.at.next_update.length == 0 {
 		return time.Time{}, false
 	}
-	return seconds(l.at.next_update_seconds), true
+	return seconds(c.at.next_update_seconds), true
 }
 
 // RevokedCertificates goes over the entries, in their order.
-func (l *CertificateList) RevokedCertificates() *Items[RevokedCertificate] {
-	list := at(l.octets, l.at.revoked_certificates)
+func (c *CertificateList) RevokedCertificates() *Items[RevokedCertificate] {
+	list := at(c.octets, c.at.revoked_certificates)
 	return &Items[RevokedCertificate]{left: Contents(list), read: readRevokedCertificate}
 }
 
 // Extensions goes over the extensions, in their order.
-func (l *CertificateList) Extensions() *Items[Extension] {
-	return extensions(Contents(at(l.octets, l.at.crl_extensions)))
+func (c *CertificateList) Extensions() *Items[Extension] {
+	return extensions(Contents(at(c.octets, c.at.crl_extensions)))
 }
 
 // RevokedCertificate is an entry of a list (RFC 5280 5.1.2.6).
@@ -75,8 +81,17 @@ type RevokedCertificate struct {
 // Octets gives the whole entry.
 func (r RevokedCertificate) Octets() []byte { return r.octets }
 
-// UserCertificate gives userCertificate, an INTEGER.
+// written by tools/bindings: fields of RevokedCertificate
+
+// UserCertificate returns userCertificate, an INTEGER.
 func (r RevokedCertificate) UserCertificate() []byte { return at(r.octets, r.at.user_certificate) }
+
+// CRLEntryExtensions returns crlEntryExtensions, a SEQUENCE OF; nil if absent.
+func (r RevokedCertificate) CRLEntryExtensions() []byte {
+	return at(r.octets, r.at.crl_entry_extensions)
+}
+
+// end of fields of RevokedCertificate
 
 // RevocationDate gives revocationDate.
 func (r RevokedCertificate) RevocationDate() time.Time { return seconds(r.at.revocation_date_seconds) }

@@ -20,11 +20,16 @@ func ReadContentInfo(octets []byte) (*ContentInfo, error) {
 	return &ContentInfo{octets, out}, nil
 }
 
-// ContentType gives contentType, an OBJECT IDENTIFIER.
+// written by tools/bindings: fields of ContentInfo
+
+// ContentType returns contentType, an OBJECT IDENTIFIER.
 func (c *ContentInfo) ContentType() []byte { return at(c.octets, c.at.content_type) }
 
-// Content gives content with its tag [0], of which ReadSignedData reads the contents.
+// Content returns content, with its explicit tag [0]; if contentType is id-signedData, a SignedData is to be read from
+// its contents octets.
 func (c *ContentInfo) Content() []byte { return at(c.octets, c.at.content) }
+
+// end of fields of ContentInfo
 
 // SignedData is a signed message (RFC 5652 5.1).
 type SignedData struct {
@@ -43,27 +48,31 @@ func ReadSignedData(octets []byte) (*SignedData, error) {
 	return &SignedData{octets, out}, nil
 }
 
-// DigestAlgorithms gives digestAlgorithms, a SET OF.
-func (d *SignedData) DigestAlgorithms() []byte { return at(d.octets, d.at.digest_algorithms) }
+// written by tools/bindings: fields of SignedData
 
-// Certificates gives certificates with their tag [0]; nil where they are absent.
-func (d *SignedData) Certificates() []byte { return at(d.octets, d.at.certificates) }
+// DigestAlgorithms returns digestAlgorithms, a SET OF AlgorithmIdentifier.
+func (s *SignedData) DigestAlgorithms() []byte { return at(s.octets, s.at.digest_algorithms) }
 
-// CRLs gives crls with their tag [1]; nil where they are absent.
-func (d *SignedData) CRLs() []byte { return at(d.octets, d.at.crls) }
+// Certificates returns certificates, with their implicit tag [0]; nil if absent.
+func (s *SignedData) Certificates() []byte { return at(s.octets, s.at.certificates) }
 
-// EContentType gives eContentType of encapContentInfo, an OBJECT IDENTIFIER.
-func (d *SignedData) EContentType() []byte { return at(d.octets, d.at.e_content_type) }
+// CRLs returns crls, with their implicit tag [1]; nil if absent.
+func (s *SignedData) CRLs() []byte { return at(s.octets, s.at.crls) }
 
-// EContent gives eContent of encapContentInfo with its tag [0], an OCTET STRING; nil where it is absent.
-func (d *SignedData) EContent() []byte { return at(d.octets, d.at.e_content) }
+// EContentType returns eContentType of encapContentInfo, an OBJECT IDENTIFIER.
+func (s *SignedData) EContentType() []byte { return at(s.octets, s.at.e_content_type) }
+
+// EContent returns eContent of encapContentInfo, an OCTET STRING with its explicit tag [0]; nil if absent.
+func (s *SignedData) EContent() []byte { return at(s.octets, s.at.e_content) }
+
+// end of fields of SignedData
 
 // Version gives version, 0 to 5.
-func (d *SignedData) Version() int { return int(d.at.version_number) }
+func (s *SignedData) Version() int { return int(s.at.version_number) }
 
 // SignerInfos goes over the signers, in their order.
-func (d *SignedData) SignerInfos() *Items[SignerInfo] {
-	return &Items[SignerInfo]{left: Contents(at(d.octets, d.at.signer_infos)), read: readSignerInfo}
+func (s *SignedData) SignerInfos() *Items[SignerInfo] {
+	return &Items[SignerInfo]{left: Contents(at(s.octets, s.at.signer_infos)), read: readSignerInfo}
 }
 
 // SignerInfo is a signer (RFC 5652 5.3).
@@ -86,23 +95,27 @@ func readSignerInfo(octets []byte) (SignerInfo, int, error) {
 // Octets gives the whole SignerInfo.
 func (s SignerInfo) Octets() []byte { return s.octets }
 
-// SID gives sid: a SEQUENCE of issuer and serial number, or with its tag [0] a key's identifier.
+// written by tools/bindings: fields of SignerInfo
+
+// SID returns sid, a CHOICE: a SEQUENCE of issuer and serial number, or with its implicit tag [0] a key's identifier.
 func (s SignerInfo) SID() []byte { return at(s.octets, s.at.sid) }
 
-// DigestAlgorithm gives digestAlgorithm, an AlgorithmIdentifier.
+// DigestAlgorithm returns digestAlgorithm, an AlgorithmIdentifier.
 func (s SignerInfo) DigestAlgorithm() []byte { return at(s.octets, s.at.digest_algorithm) }
 
-// SignedAttrs gives signedAttrs with their tag [0]; nil where they are absent.
+// SignedAttrs returns signedAttrs, with their implicit tag [0]; nil if absent.
 func (s SignerInfo) SignedAttrs() []byte { return at(s.octets, s.at.signed_attrs) }
 
-// SignatureAlgorithm gives signatureAlgorithm, an AlgorithmIdentifier.
+// SignatureAlgorithm returns signatureAlgorithm, an AlgorithmIdentifier.
 func (s SignerInfo) SignatureAlgorithm() []byte { return at(s.octets, s.at.signature_algorithm) }
 
-// Signature gives signature, an OCTET STRING.
+// Signature returns signature, an OCTET STRING.
 func (s SignerInfo) Signature() []byte { return at(s.octets, s.at.signature) }
 
-// UnsignedAttrs gives unsignedAttrs with their tag [1]; nil where they are absent.
+// UnsignedAttrs returns unsignedAttrs, with their implicit tag [1]; nil if absent.
 func (s SignerInfo) UnsignedAttrs() []byte { return at(s.octets, s.at.unsigned_attrs) }
+
+// end of fields of SignerInfo
 
 // Version gives version, 0 to 5.
 func (s SignerInfo) Version() int { return int(s.at.version_number) }

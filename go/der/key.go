@@ -26,13 +26,17 @@ func ReadSubjectPublicKeyInfo(octets []byte) (*SubjectPublicKeyInfo, error) {
 	return &SubjectPublicKeyInfo{octets, out}, nil
 }
 
-// Algorithm gives algorithm, an AlgorithmIdentifier.
-func (k *SubjectPublicKeyInfo) Algorithm() []byte { return at(k.octets, k.at.algorithm) }
+// written by tools/bindings: fields of SubjectPublicKeyInfo
 
-// SubjectPublicKey gives subjectPublicKey, a BIT STRING.
-func (k *SubjectPublicKeyInfo) SubjectPublicKey() []byte {
-	return at(k.octets, k.at.subject_public_key)
+// Algorithm returns algorithm, an AlgorithmIdentifier.
+func (s *SubjectPublicKeyInfo) Algorithm() []byte { return at(s.octets, s.at.algorithm) }
+
+// SubjectPublicKey returns subjectPublicKey, a BIT STRING.
+func (s *SubjectPublicKeyInfo) SubjectPublicKey() []byte {
+	return at(s.octets, s.at.subject_public_key)
 }
+
+// end of fields of SubjectPublicKeyInfo
 
 // PrivateKeyInfo is a private key, which is a OneAsymmetricKey (RFC 5958 section 2). What fmt prints of it shows no octets.
 type PrivateKeyInfo struct {
@@ -52,24 +56,28 @@ func ReadPrivateKeyInfo(octets []byte) (*PrivateKeyInfo, error) {
 	return &PrivateKeyInfo{octets, out}, nil
 }
 
-// PrivateKeyAlgorithm gives privateKeyAlgorithm, an AlgorithmIdentifier.
-func (k *PrivateKeyInfo) PrivateKeyAlgorithm() []byte {
-	return at(k.octets, k.at.private_key_algorithm)
+// written by tools/bindings: fields of PrivateKeyInfo
+
+// PrivateKeyAlgorithm returns privateKeyAlgorithm, an AlgorithmIdentifier.
+func (p *PrivateKeyInfo) PrivateKeyAlgorithm() []byte {
+	return at(p.octets, p.at.private_key_algorithm)
 }
 
-// PrivateKey gives privateKey, an OCTET STRING.
-func (k *PrivateKeyInfo) PrivateKey() []byte { return at(k.octets, k.at.private_key) }
+// PrivateKey returns privateKey, an OCTET STRING.
+func (p *PrivateKeyInfo) PrivateKey() []byte { return at(p.octets, p.at.private_key) }
 
-// Attributes gives attributes with their tag [0]; nil where they are absent.
-func (k *PrivateKeyInfo) Attributes() []byte { return at(k.octets, k.at.attributes) }
+// Attributes returns attributes, with their implicit tag [0]; nil if absent.
+func (p *PrivateKeyInfo) Attributes() []byte { return at(p.octets, p.at.attributes) }
 
-// PublicKey gives publicKey with its tag [1]; nil where it is absent.
-func (k *PrivateKeyInfo) PublicKey() []byte { return at(k.octets, k.at.public_key) }
+// PublicKey returns publicKey, with its implicit tag [1]; nil if absent.
+func (p *PrivateKeyInfo) PublicKey() []byte { return at(p.octets, p.at.public_key) }
+
+// end of fields of PrivateKeyInfo
 
 // Version is 1 or 2: one more than the number that stands in version.
-func (k *PrivateKeyInfo) Version() int { return int(k.at.version_number) + 1 }
+func (p *PrivateKeyInfo) Version() int { return int(p.at.version_number) + 1 }
 
 // Format writes the name of the type, and nothing of the key.
-func (k PrivateKeyInfo) Format(state fmt.State, _ rune) {
+func (p PrivateKeyInfo) Format(state fmt.State, _ rune) {
 	_, _ = io.WriteString(state, "der.PrivateKeyInfo")
 }

@@ -23,14 +23,18 @@ func ReadOCSPResponse(octets []byte) (*OCSPResponse, error) {
 }
 
 // ResponseStatus gives responseStatus: 0 for successful, 1 to 3, 5 or 6.
-func (r *OCSPResponse) ResponseStatus() int { return int(r.at.response_status_number) }
+func (o *OCSPResponse) ResponseStatus() int { return int(o.at.response_status_number) }
 
-// ResponseType gives responseType of responseBytes, an OBJECT IDENTIFIER; nil where these are absent.
-func (r *OCSPResponse) ResponseType() []byte { return at(r.octets, r.at.response_type) }
+// written by tools/bindings: fields of OCSPResponse
 
-// Response gives response of responseBytes, an OCTET STRING, of which ReadBasicOCSPResponse reads the contents; nil where
-// these are absent.
-func (r *OCSPResponse) Response() []byte { return at(r.octets, r.at.response) }
+// ResponseType returns responseType of responseBytes, an OBJECT IDENTIFIER; nil if absent.
+func (o *OCSPResponse) ResponseType() []byte { return at(o.octets, o.at.response_type) }
+
+// Response returns response of responseBytes, an OCTET STRING; if responseType is id-pkix-ocsp-basic, a
+// BasicOCSPResponse is to be read from its contents octets; nil if absent.
+func (o *OCSPResponse) Response() []byte { return at(o.octets, o.at.response) }
+
+// end of fields of OCSPResponse
 
 // BasicOCSPResponse is a signed answer (RFC 6960 4.2.1).
 type BasicOCSPResponse struct {
@@ -49,22 +53,27 @@ func ReadBasicOCSPResponse(octets []byte) (*BasicOCSPResponse, error) {
 	return &BasicOCSPResponse{octets, out}, nil
 }
 
-// TBSResponseData gives tbsResponseData: what the signature covers.
+// written by tools/bindings: fields of BasicOCSPResponse
+
+// TBSResponseData returns tbsResponseData, what the signature covers.
 func (b *BasicOCSPResponse) TBSResponseData() []byte { return at(b.octets, b.at.tbs_response_data) }
 
-// SignatureAlgorithm gives signatureAlgorithm, an AlgorithmIdentifier.
+// SignatureAlgorithm returns signatureAlgorithm, an AlgorithmIdentifier.
 func (b *BasicOCSPResponse) SignatureAlgorithm() []byte {
 	return at(b.octets, b.at.signature_algorithm)
 }
 
-// Signature gives signature, a BIT STRING.
+// Signature returns signature, a BIT STRING.
 func (b *BasicOCSPResponse) Signature() []byte { return at(b.octets, b.at.signature) }
 
-// Certs gives certs with their tag [0]; nil where they are absent.
+// Certs returns certs, with their explicit tag [0]; nil if absent.
 func (b *BasicOCSPResponse) Certs() []byte { return at(b.octets, b.at.certs) }
 
-// ResponderID gives responderID, with its tag [1] or [2].
+// ResponderID returns responderID of tbsResponseData, a CHOICE: with the explicit tag [1] a Name, with the explicit tag
+// [2] an OCTET STRING.
 func (b *BasicOCSPResponse) ResponderID() []byte { return at(b.octets, b.at.responder_id) }
+
+// end of fields of BasicOCSPResponse
 
 // ProducedAt gives producedAt.
 func (b *BasicOCSPResponse) ProducedAt() time.Time { return seconds(b.at.produced_at_seconds) }
@@ -109,8 +118,12 @@ func readSingleResponse(octets []byte) (SingleResponse, int, error) {
 // Octets gives the whole answer.
 func (s SingleResponse) Octets() []byte { return s.octets }
 
-// CertID gives certID.
+// written by tools/bindings: fields of SingleResponse
+
+// CertID returns certID, a CertID.
 func (s SingleResponse) CertID() []byte { return at(s.octets, s.at.cert_id) }
+
+// end of fields of SingleResponse
 
 // CertStatus gives certStatus.
 func (s SingleResponse) CertStatus() CertStatus { return CertStatus(s.at.cert_status_number) }

@@ -21,26 +21,30 @@ func ReadCertificationRequest(octets []byte) (*CertificationRequest, error) {
 	return &CertificationRequest{octets, out}, nil
 }
 
-// CertificationRequestInfo gives certificationRequestInfo: what the signature covers.
-func (r *CertificationRequest) CertificationRequestInfo() []byte {
-	return at(r.octets, r.at.certification_request_info)
+// written by tools/bindings: fields of CertificationRequest
+
+// CertificationRequestInfo returns certificationRequestInfo, what the signature covers.
+func (c *CertificationRequest) CertificationRequestInfo() []byte {
+	return at(c.octets, c.at.certification_request_info)
 }
 
-// SignatureAlgorithm gives signatureAlgorithm, an AlgorithmIdentifier.
-func (r *CertificationRequest) SignatureAlgorithm() []byte {
-	return at(r.octets, r.at.signature_algorithm)
+// SignatureAlgorithm returns signatureAlgorithm, an AlgorithmIdentifier.
+func (c *CertificationRequest) SignatureAlgorithm() []byte {
+	return at(c.octets, c.at.signature_algorithm)
 }
 
-// Signature gives signature, a BIT STRING.
-func (r *CertificationRequest) Signature() []byte { return at(r.octets, r.at.signature) }
+// Signature returns signature, a BIT STRING.
+func (c *CertificationRequest) Signature() []byte { return at(c.octets, c.at.signature) }
 
-// Subject gives subject, a Name.
-func (r *CertificationRequest) Subject() []byte { return at(r.octets, r.at.subject) }
+// Subject returns subject of certificationRequestInfo, a Name.
+func (c *CertificationRequest) Subject() []byte { return at(c.octets, c.at.subject) }
 
-// SubjectPKInfo gives subjectPKInfo, which ReadSubjectPublicKeyInfo reads.
-func (r *CertificationRequest) SubjectPKInfo() []byte { return at(r.octets, r.at.subject_pk_info) }
+// SubjectPKInfo returns subjectPKInfo of certificationRequestInfo, a SubjectPublicKeyInfo.
+func (c *CertificationRequest) SubjectPKInfo() []byte { return at(c.octets, c.at.subject_pk_info) }
+
+// end of fields of CertificationRequest
 
 // Attributes goes over the attributes, in their order.
-func (r *CertificationRequest) Attributes() *Items[Attribute] {
-	return Attributes(at(r.octets, r.at.attributes))
+func (c *CertificationRequest) Attributes() *Items[Attribute] {
+	return Attributes(at(c.octets, c.at.attributes))
 }

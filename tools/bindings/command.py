@@ -12,10 +12,11 @@ from .errors import TableError
 from .tables.reading import structs_of
 from .tables.rules import Rule, rules_of
 from .tables.structs import Struct
-from .writers import page, rules, structs_in_c, structs_in_python, structs_in_rust
+from .writers import fields, page, rules, structs_in_c, structs_in_python, structs_in_rust
 
 RULES = "asn1/rules.txt"
 STRUCTS = "asn1/structs.txt"
+PYTHON = "python/src/derproved/__init__.py"
 ROOT = Path(__file__).resolve().parent.parent.parent
 
 
@@ -50,6 +51,17 @@ def run(root: Path, is_check: bool) -> int:
 
 def parts(found_rules: list[Rule], found_structs: list[Struct]) -> dict[str, dict[str, list[str]]]:
     """The lines of each written part, by its file and its name."""
+    found = parts_of_lists(found_rules, found_structs)
+    for struct in found_structs:
+        name = f"fields of {struct.type}"
+        found.setdefault(f"rust/der-proved/src/{struct.file}.rs", {})[name] = fields.in_rust(struct)
+        found.setdefault(f"go/der/{struct.file}.go", {})[name] = fields.in_go(struct)
+        found[PYTHON][name] = fields.in_python(struct)
+    return found
+
+
+def parts_of_lists(found_rules: list[Rule], found_structs: list[Struct]) -> dict[str, dict[str, list[str]]]:
+    """Those of all rules, and those of all structs."""
     return {
         "c/include/der.h": {
             "rules": rules.in_c(found_rules),
@@ -64,7 +76,7 @@ def parts(found_rules: list[Rule], found_structs: list[Struct]) -> dict[str, dic
         },
         "rust/der-proved/src/rules.rs": {"rules": rules.in_rust(found_rules)},
         "go/der/rules.go": {"rules": rules.in_go(found_rules)},
-        "python/src/derproved/__init__.py": {"rules": rules.in_python(found_rules)},
+        PYTHON: {"rules": rules.in_python(found_rules)},
         "python/src/derproved/_places.py": {"indices": structs_in_python.indices(found_structs)},
         "python/src/derproved/_der.pyi": {"classes": structs_in_python.classes(found_structs)},
         "python/src/derproved/classes.h": {"structs": structs_in_python.members(found_structs)},

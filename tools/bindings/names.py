@@ -8,7 +8,8 @@ from .tables.rules import Rule
 from .tables.structs import Field, Struct
 
 PART = re.compile(r"[A-Z][a-z]*|[0-9]+")
-KEYWORDS_OF_RUST = frozenset(["type"])  # of the fields' names
+KEYWORDS = frozenset(["type"])  # of Rust and of Go, of the fields' names
+FIRST_WORDS_IN_GO = {"tbs": "TBS", "crl": "CRL", "crls": "CRLs", "sid": "SID"}  # of fields' names in ASN.1
 
 
 def capitals(name: str) -> str:
@@ -32,7 +33,19 @@ def rule_in_go(rule: Rule) -> str:
 
 
 def field_in_rust(field: Field) -> str:
-    return f"{field.name}_" if field.name in KEYWORDS_OF_RUST else field.name
+    return f"{field.name}_" if field.name in KEYWORDS else field.name
+
+
+def field_of_c_in_go(field: Field) -> str:
+    return f"_{field.name}" if field.name in KEYWORDS else field.name
+
+
+def field_in_go(field: Field) -> str:
+    """TBSCertificate of tbsCertificate."""
+    name = field.name_elsewhere
+    first = re.match("[a-z]+", name)
+    assert first
+    return FIRST_WORDS_IN_GO.get(first[0], first[0].capitalize()) + name[first.end() :]
 
 
 def struct_in_c(struct: Struct) -> str:
@@ -46,6 +59,11 @@ def struct_in_rust(struct: Struct) -> str:
 def with_article(noun: str) -> str:
     """'a certificate', 'an extension'."""
     return f"{'an' if noun[0] in 'aeioAEIO' else 'a'} {noun}"
+
+
+def without_links(text: str) -> str:
+    """A text as documentation in Rust, where words in brackets are links."""
+    return text.replace("[", "\\[").replace("]", "\\]")
 
 
 def capital(sentence: str) -> str:

@@ -7,9 +7,14 @@ import textwrap
 WIDTH = 120
 
 
+def wrapped(text: str, width: int) -> list[str]:
+    """A text in lines that end between words."""
+    return textwrap.wrap(text, width, break_long_words=False, break_on_hyphens=False)
+
+
 def comment_in_c(text: str, indent: str = "") -> list[str]:
     """A comment of C, in as many lines as it takes."""
-    lines = textwrap.wrap(text, WIDTH - len(indent) - 6, break_long_words=False, break_on_hyphens=False)
+    lines = wrapped(text, WIDTH - len(indent) - 6)
     lines = [("/* " if at == 0 else " * ") + line for at, line in enumerate(lines)]
     return [indent + line for line in [*lines[:-1], f"{lines[-1]} */"]]
 

@@ -78,8 +78,10 @@ class Extension(_der.Extension):
 
     __slots__ = ()
 
-    extn_id = _der.field(_places.Extension.extn_id, "`extnID`, an OBJECT IDENTIFIER.")
-    extn_value = _der.field(_places.Extension.extn_value, "`extnValue`, an OCTET STRING.")
+    # written by tools/bindings: fields of Extension
+    extn_id = _der.field(1, "`extnID`, an OBJECT IDENTIFIER.")
+    extn_value = _der.field(3, "`extnValue`, an OCTET STRING.")
+    # end of fields of Extension
     identifier = _der.contents_field(_places.Extension.extn_id, "The contents octets of `extnID`: 55 1D 0F of keyUsage.")
     value = _der.contents_field(
         _places.Extension.extn_value, "The contents octets of `extnValue`: the encoding of what the extension says."
@@ -92,21 +94,19 @@ class Certificate(_der.Certificate):
 
     __slots__ = ()
 
-    tbs_certificate = _der.field(_places.Certificate.tbs_certificate, "`tbsCertificate`: what the signature covers.")
-    signature_algorithm = _der.field(
-        _places.Certificate.signature_algorithm, "`signatureAlgorithm`, an AlgorithmIdentifier."
-    )
-    signature_value = _der.field(_places.Certificate.signature_value, "`signatureValue`, a BIT STRING.")
-    serial_number = _der.field(_places.Certificate.serial_number, "`serialNumber`, an INTEGER.")
-    signature = _der.field(_places.Certificate.signature, "`signature` of what is signed, an AlgorithmIdentifier.")
-    issuer = _der.field(_places.Certificate.issuer, "`issuer`, a Name.")
-    validity = _der.field(_places.Certificate.validity, "`validity`.")
-    subject = _der.field(_places.Certificate.subject, "`subject`, a Name.")
-    subject_public_key_info = _der.field(
-        _places.Certificate.subject_public_key_info, "`subjectPublicKeyInfo`, which SubjectPublicKeyInfo reads."
-    )
-    issuer_unique_id = _der.optional(_places.Certificate.issuer_unique_id, "`issuerUniqueID` with its tag [1].")
-    subject_unique_id = _der.optional(_places.Certificate.subject_unique_id, "`subjectUniqueID` with its tag [2].")
+    # written by tools/bindings: fields of Certificate
+    tbs_certificate = _der.field(0, "`tbsCertificate`, what the signature covers.")
+    signature_algorithm = _der.field(1, "`signatureAlgorithm`, an AlgorithmIdentifier.")
+    signature_value = _der.field(2, "`signatureValue`, a BIT STRING.")
+    serial_number = _der.field(4, "`serialNumber` of `tbsCertificate`, an INTEGER.")
+    signature = _der.field(5, "`signature` of `tbsCertificate`, an AlgorithmIdentifier.")
+    issuer = _der.field(6, "`issuer` of `tbsCertificate`, a Name.")
+    validity = _der.field(7, "`validity` of `tbsCertificate`, a SEQUENCE of both dates.")
+    subject = _der.field(8, "`subject` of `tbsCertificate`, a Name.")
+    subject_public_key_info = _der.field(9, "`subjectPublicKeyInfo` of `tbsCertificate`, a SubjectPublicKeyInfo.")
+    issuer_unique_id = _der.optional(10, "`issuerUniqueID` of `tbsCertificate`, with its implicit tag [1].")
+    subject_unique_id = _der.optional(11, "`subjectUniqueID` of `tbsCertificate`, with its implicit tag [2].")
+    # end of fields of Certificate
     not_before = _der.moment(_places.Certificate.not_before, "`notBefore`.")
     not_after = _der.moment(_places.Certificate.not_after, "`notAfter`; the certificate is valid in this second too.")
     version = _der.number(_places.Certificate.version_number, "1, 2 or 3.", 1)
@@ -118,10 +118,10 @@ class RevokedCertificate(_der.RevokedCertificate):
 
     __slots__ = ()
 
-    user_certificate = _der.field(_places.RevokedCertificate.user_certificate, "`userCertificate`, an INTEGER.")
-    crl_entry_extensions = _der.optional(
-        _places.RevokedCertificate.crl_entry_extensions, "`crlEntryExtensions`, a SEQUENCE OF."
-    )
+    # written by tools/bindings: fields of RevokedCertificate
+    user_certificate = _der.field(1, "`userCertificate`, an INTEGER.")
+    crl_entry_extensions = _der.optional(3, "`crlEntryExtensions`, a SEQUENCE OF.")
+    # end of fields of RevokedCertificate
     revocation_date = _der.moment(_places.RevokedCertificate.revocation_date_seconds, "`revocationDate`.")
     extensions = _der.items(
         _places.RevokedCertificate.crl_entry_extensions, "The extensions, in their order.", 1, Extension
@@ -133,13 +133,13 @@ class CertificateList(_der.CertificateList):
 
     __slots__ = ()
 
-    tbs_cert_list = _der.field(_places.CertificateList.tbs_cert_list, "`tbsCertList`: what the signature covers.")
-    signature_algorithm = _der.field(
-        _places.CertificateList.signature_algorithm, "`signatureAlgorithm`, an AlgorithmIdentifier."
-    )
-    signature_value = _der.field(_places.CertificateList.signature_value, "`signatureValue`, a BIT STRING.")
-    signature = _der.field(_places.CertificateList.signature, "`signature` of what is signed, an AlgorithmIdentifier.")
-    issuer = _der.field(_places.CertificateList.issuer, "`issuer`, a Name.")
+    # written by tools/bindings: fields of CertificateList
+    tbs_cert_list = _der.field(0, "`tbsCertList`, what the signature covers.")
+    signature_algorithm = _der.field(1, "`signatureAlgorithm`, an AlgorithmIdentifier.")
+    signature_value = _der.field(2, "`signatureValue`, a BIT STRING.")
+    signature = _der.field(4, "`signature` of `tbsCertList`, an AlgorithmIdentifier.")
+    issuer = _der.field(5, "`issuer` of `tbsCertList`, a Name.")
+    # end of fields of CertificateList
     this_update = _der.moment(_places.CertificateList.this_update_seconds, "`thisUpdate`.")
     next_update = _der.optional_moment(
         _places.CertificateList.next_update_seconds, "`nextUpdate`, if it is there.", _places.CertificateList.next_update
@@ -156,8 +156,10 @@ class SubjectPublicKeyInfo(_der.SubjectPublicKeyInfo):
 
     __slots__ = ()
 
-    algorithm = _der.field(_places.SubjectPublicKeyInfo.algorithm, "`algorithm`, an AlgorithmIdentifier.")
-    subject_public_key = _der.field(_places.SubjectPublicKeyInfo.subject_public_key, "`subjectPublicKey`, a BIT STRING.")
+    # written by tools/bindings: fields of SubjectPublicKeyInfo
+    algorithm = _der.field(0, "`algorithm`, an AlgorithmIdentifier.")
+    subject_public_key = _der.field(1, "`subjectPublicKey`, a BIT STRING.")
+    # end of fields of SubjectPublicKeyInfo
 
 
 class PrivateKeyInfo(_der.PrivateKeyInfo):
@@ -165,12 +167,12 @@ class PrivateKeyInfo(_der.PrivateKeyInfo):
 
     __slots__ = ()
 
-    private_key_algorithm = _der.field(
-        _places.PrivateKeyInfo.private_key_algorithm, "`privateKeyAlgorithm`, an AlgorithmIdentifier."
-    )
-    private_key = _der.field(_places.PrivateKeyInfo.private_key, "`privateKey`, an OCTET STRING.")
-    attributes = _der.optional(_places.PrivateKeyInfo.attributes, "`attributes` with their tag [0].")
-    public_key = _der.optional(_places.PrivateKeyInfo.public_key, "`publicKey` with its tag [1].")
+    # written by tools/bindings: fields of PrivateKeyInfo
+    private_key_algorithm = _der.field(1, "`privateKeyAlgorithm`, an AlgorithmIdentifier.")
+    private_key = _der.field(2, "`privateKey`, an OCTET STRING.")
+    attributes = _der.optional(3, "`attributes`, with their implicit tag [0].")
+    public_key = _der.optional(4, "`publicKey`, with its implicit tag [1].")
+    # end of fields of PrivateKeyInfo
     version = _der.number(_places.PrivateKeyInfo.version_number, "1 or 2.", 1)
 
 
@@ -179,8 +181,10 @@ class AttributeTypeAndValue(_der.AttributeTypeAndValue):
 
     __slots__ = ()
 
-    type = _der.field(_places.AttributeTypeAndValue.type, "`type`, an OBJECT IDENTIFIER.")
-    value = _der.field(_places.AttributeTypeAndValue.value, "`value`, of any type.")
+    # written by tools/bindings: fields of AttributeTypeAndValue
+    type = _der.field(1, "`type`, an OBJECT IDENTIFIER.")
+    value = _der.field(2, "`value`, of any type.")
+    # end of fields of AttributeTypeAndValue
     identifier = _der.contents_field(
         _places.AttributeTypeAndValue.type, "The contents octets of `type`: 55 04 03 of commonName."
     )
@@ -196,8 +200,10 @@ class Attribute(_der.Attribute):
 
     __slots__ = ()
 
-    type = _der.field(_places.Attribute.type, "`type`, an OBJECT IDENTIFIER.")
-    values = _der.field(_places.Attribute.values, "`values`, a SET OF.")
+    # written by tools/bindings: fields of Attribute
+    type = _der.field(1, "`type`, an OBJECT IDENTIFIER.")
+    values = _der.field(2, "`values`, a SET OF.")
+    # end of fields of Attribute
     identifier = _der.contents_field(
         _places.Attribute.type, "The contents octets of `type`: 2A 86 48 86 F7 0D 01 09 04 of messageDigest."
     )
@@ -213,17 +219,13 @@ class CertificationRequest(_der.CertificationRequest):
 
     __slots__ = ()
 
-    certification_request_info = _der.field(
-        _places.CertificationRequest.certification_request_info, "`certificationRequestInfo`: what the signature covers."
-    )
-    signature_algorithm = _der.field(
-        _places.CertificationRequest.signature_algorithm, "`signatureAlgorithm`, an AlgorithmIdentifier."
-    )
-    signature = _der.field(_places.CertificationRequest.signature, "`signature`, a BIT STRING.")
-    subject = _der.field(_places.CertificationRequest.subject, "`subject`, a Name.")
-    subject_pk_info = _der.field(
-        _places.CertificationRequest.subject_pk_info, "`subjectPKInfo`, which SubjectPublicKeyInfo reads."
-    )
+    # written by tools/bindings: fields of CertificationRequest
+    certification_request_info = _der.field(0, "`certificationRequestInfo`, what the signature covers.")
+    signature_algorithm = _der.field(1, "`signatureAlgorithm`, an AlgorithmIdentifier.")
+    signature = _der.field(2, "`signature`, a BIT STRING.")
+    subject = _der.field(4, "`subject` of `certificationRequestInfo`, a Name.")
+    subject_pk_info = _der.field(5, "`subjectPKInfo` of `certificationRequestInfo`, a SubjectPublicKeyInfo.")
+    # end of fields of CertificationRequest
     attributes = _der.items(_places.CertificationRequest.attributes, "The attributes, in their order.", 1, Attribute)
 
 
@@ -232,12 +234,12 @@ class OcspResponse(_der.OcspResponse):
 
     __slots__ = ()
 
-    response_type = _der.optional(
-        _places.OcspResponse.response_type, "`responseType` of `responseBytes`, an OBJECT IDENTIFIER."
-    )
+    # written by tools/bindings: fields of OCSPResponse
+    response_type = _der.optional(2, "`responseType` of `responseBytes`, an OBJECT IDENTIFIER.")
     response = _der.optional(
-        _places.OcspResponse.response, "`response` of `responseBytes`, an OCTET STRING, of which BasicOcspResponse reads the contents."
+        3, "`response` of `responseBytes`, an OCTET STRING; if responseType is id-pkix-ocsp-basic, a BasicOCSPResponse is to be read from its contents octets."
     )
+    # end of fields of OCSPResponse
     response_status = _der.number(
         _places.OcspResponse.response_status_number, "`responseStatus`: 0 for successful, 1 to 3, 5 or 6."
     )
@@ -256,7 +258,9 @@ class SingleResponse(_der.SingleResponse):
 
     __slots__ = ()
 
-    cert_id = _der.field(_places.SingleResponse.cert_id, "`certID`.")
+    # written by tools/bindings: fields of SingleResponse
+    cert_id = _der.field(1, "`certID`, a CertID.")
+    # end of fields of SingleResponse
     this_update = _der.moment(_places.SingleResponse.this_update_seconds, "`thisUpdate`.")
     next_update = _der.optional_moment(
         _places.SingleResponse.next_update_seconds, "`nextUpdate`, if it is there.", _places.SingleResponse.next_update
@@ -283,15 +287,15 @@ class BasicOcspResponse(_der.BasicOcspResponse):
 
     __slots__ = ()
 
-    tbs_response_data = _der.field(
-        _places.BasicOcspResponse.tbs_response_data, "`tbsResponseData`: what the signature covers."
+    # written by tools/bindings: fields of BasicOCSPResponse
+    tbs_response_data = _der.field(0, "`tbsResponseData`, what the signature covers.")
+    signature_algorithm = _der.field(1, "`signatureAlgorithm`, an AlgorithmIdentifier.")
+    signature = _der.field(2, "`signature`, a BIT STRING.")
+    certs = _der.optional(3, "`certs`, with their explicit tag [0].")
+    responder_id = _der.field(
+        5, "`responderID` of `tbsResponseData`, a CHOICE: with the explicit tag [1] a Name, with the explicit tag [2] an OCTET STRING."
     )
-    signature_algorithm = _der.field(
-        _places.BasicOcspResponse.signature_algorithm, "`signatureAlgorithm`, an AlgorithmIdentifier."
-    )
-    signature = _der.field(_places.BasicOcspResponse.signature, "`signature`, a BIT STRING.")
-    certs = _der.optional(_places.BasicOcspResponse.certs, "`certs` with their tag [0].")
-    responder_id = _der.field(_places.BasicOcspResponse.responder_id, "`responderID`, with its tag [1] or [2].")
+    # end of fields of BasicOCSPResponse
     produced_at = _der.moment(_places.BasicOcspResponse.produced_at_seconds, "`producedAt`.")
     responses = _der.items(
         _places.BasicOcspResponse.responses, "The answers about single certificates, in their order.", 1, SingleResponse
@@ -304,8 +308,12 @@ class ContentInfo(_der.ContentInfo):
 
     __slots__ = ()
 
-    content_type = _der.field(_places.ContentInfo.content_type, "`contentType`, an OBJECT IDENTIFIER.")
-    content = _der.field(_places.ContentInfo.content, "`content` with its tag [0], of which SignedData reads the contents.")
+    # written by tools/bindings: fields of ContentInfo
+    content_type = _der.field(0, "`contentType`, an OBJECT IDENTIFIER.")
+    content = _der.field(
+        1, "`content`, with its explicit tag [0]; if contentType is id-signedData, a SignedData is to be read from its contents octets."
+    )
+    # end of fields of ContentInfo
 
 
 class SignerInfo(_der.SignerInfo):
@@ -313,16 +321,16 @@ class SignerInfo(_der.SignerInfo):
 
     __slots__ = ()
 
+    # written by tools/bindings: fields of SignerInfo
     sid = _der.field(
-        _places.SignerInfo.sid, "`sid`: a SEQUENCE of issuer and serial number, or with its tag [0] a key's identifier."
+        2, "`sid`, a CHOICE: a SEQUENCE of issuer and serial number, or with its implicit tag [0] a key's identifier."
     )
-    digest_algorithm = _der.field(_places.SignerInfo.digest_algorithm, "`digestAlgorithm`, an AlgorithmIdentifier.")
-    signed_attrs = _der.optional(_places.SignerInfo.signed_attrs, "`signedAttrs` with their tag [0].")
-    signature_algorithm = _der.field(
-        _places.SignerInfo.signature_algorithm, "`signatureAlgorithm`, an AlgorithmIdentifier."
-    )
-    signature = _der.field(_places.SignerInfo.signature, "`signature`, an OCTET STRING.")
-    unsigned_attrs = _der.optional(_places.SignerInfo.unsigned_attrs, "`unsignedAttrs` with their tag [1].")
+    digest_algorithm = _der.field(3, "`digestAlgorithm`, an AlgorithmIdentifier.")
+    signed_attrs = _der.optional(4, "`signedAttrs`, with their implicit tag [0].")
+    signature_algorithm = _der.field(5, "`signatureAlgorithm`, an AlgorithmIdentifier.")
+    signature = _der.field(6, "`signature`, an OCTET STRING.")
+    unsigned_attrs = _der.optional(7, "`unsignedAttrs`, with their implicit tag [1].")
+    # end of fields of SignerInfo
     version = _der.number(_places.SignerInfo.version_number, "`version`, 0 to 5.")
     signed_attributes = _der.items(_places.SignerInfo.signed_attrs, "The signed attributes, in their order.", 1, Attribute)
     unsigned_attributes = _der.items(
@@ -335,15 +343,13 @@ class SignedData(_der.SignedData):
 
     __slots__ = ()
 
-    digest_algorithms = _der.field(_places.SignedData.digest_algorithms, "`digestAlgorithms`, a SET OF.")
-    certificates = _der.optional(_places.SignedData.certificates, "`certificates` with their tag [0].")
-    crls = _der.optional(_places.SignedData.crls, "`crls` with their tag [1].")
-    e_content_type = _der.field(
-        _places.SignedData.e_content_type, "`eContentType` of `encapContentInfo`, an OBJECT IDENTIFIER."
-    )
-    e_content = _der.optional(
-        _places.SignedData.e_content, "`eContent` of `encapContentInfo` with its tag [0]: an OCTET STRING."
-    )
+    # written by tools/bindings: fields of SignedData
+    digest_algorithms = _der.field(1, "`digestAlgorithms`, a SET OF AlgorithmIdentifier.")
+    certificates = _der.optional(3, "`certificates`, with their implicit tag [0].")
+    crls = _der.optional(4, "`crls`, with their implicit tag [1].")
+    e_content_type = _der.field(6, "`eContentType` of `encapContentInfo`, an OBJECT IDENTIFIER.")
+    e_content = _der.optional(7, "`eContent` of `encapContentInfo`, an OCTET STRING with its explicit tag [0].")
+    # end of fields of SignedData
     version = _der.number(_places.SignedData.version_number, "`version`, 0 to 5.")
     signer_infos = _der.items(_places.SignedData.signer_infos, "The signers, in their order.", 1, SignerInfo)
 

@@ -30,29 +30,29 @@ pub struct Fault {
 pub struct CertificateAt {
     /// What the signature covers.
     pub tbs_certificate: Place,
-    /// AlgorithmIdentifier.
+    /// An AlgorithmIdentifier.
     pub signature_algorithm: Place,
-    /// BIT STRING.
+    /// A BIT STRING.
     pub signature_value: Place,
-    /// After its tag \[0\]; absent where it is the default, v1.
+    /// With its explicit tag \[0\]; absent where it is the default, v1.
     pub version: Place,
-    /// INTEGER.
+    /// An INTEGER.
     pub serial_number: Place,
-    /// AlgorithmIdentifier.
+    /// An AlgorithmIdentifier.
     pub signature: Place,
-    /// Name.
+    /// A Name.
     pub issuer: Place,
-    /// SEQUENCE of both dates.
+    /// A SEQUENCE of both dates.
     pub validity: Place,
-    /// Name.
+    /// A Name.
     pub subject: Place,
-    /// SubjectPublicKeyInfo.
+    /// A SubjectPublicKeyInfo.
     pub subject_public_key_info: Place,
-    /// With its tag \[1\].
+    /// With its implicit tag \[1\].
     pub issuer_unique_id: Place,
-    /// With its tag \[2\].
+    /// With its implicit tag \[2\].
     pub subject_unique_id: Place,
-    /// After their tag \[3\].
+    /// With their explicit tag \[3\].
     pub extensions: Place,
     /// In seconds from 1970-01-01T00:00:00Z, with no leap seconds.
     pub not_before: u64,
@@ -68,11 +68,11 @@ pub struct CertificateAt {
 pub struct ExtensionAt {
     /// The whole extension; the next one begins after it.
     pub whole: Place,
-    /// OBJECT IDENTIFIER.
+    /// An OBJECT IDENTIFIER.
     pub extn_id: Place,
-    /// BOOLEAN; absent where it is the default, FALSE.
+    /// A BOOLEAN; absent where it is the default, FALSE.
     pub critical: Place,
-    /// OCTET STRING.
+    /// An OCTET STRING.
     pub extn_value: Place,
     /// 1 or 0.
     pub is_critical: u32,
@@ -84,23 +84,23 @@ pub struct ExtensionAt {
 pub struct CertificateListAt {
     /// What the signature covers.
     pub tbs_cert_list: Place,
-    /// AlgorithmIdentifier.
+    /// An AlgorithmIdentifier.
     pub signature_algorithm: Place,
-    /// BIT STRING.
+    /// A BIT STRING.
     pub signature_value: Place,
-    /// INTEGER.
+    /// An INTEGER.
     pub version: Place,
-    /// AlgorithmIdentifier.
+    /// An AlgorithmIdentifier.
     pub signature: Place,
-    /// Name.
+    /// A Name.
     pub issuer: Place,
-    /// Time.
+    /// A Time.
     pub this_update: Place,
-    /// Time.
+    /// A Time.
     pub next_update: Place,
-    /// SEQUENCE OF.
+    /// A SEQUENCE OF.
     pub revoked_certificates: Place,
-    /// After their tag \[0\].
+    /// With their explicit tag \[0\].
     pub crl_extensions: Place,
     /// From 1970-01-01T00:00:00Z.
     pub this_update_seconds: u64,
@@ -116,11 +116,11 @@ pub struct CertificateListAt {
 pub struct RevokedCertificateAt {
     /// The whole entry; the next one begins after it.
     pub whole: Place,
-    /// INTEGER.
+    /// An INTEGER.
     pub user_certificate: Place,
-    /// Time.
+    /// A Time.
     pub revocation_date: Place,
-    /// SEQUENCE OF.
+    /// A SEQUENCE OF.
     pub crl_entry_extensions: Place,
     /// From 1970-01-01T00:00:00Z.
     pub revocation_date_seconds: u64,
@@ -130,9 +130,9 @@ pub struct RevokedCertificateAt {
 #[repr(C)]
 #[derive(Clone, Copy, Debug, Default, PartialEq, Eq)]
 pub struct SubjectPublicKeyInfoAt {
-    /// AlgorithmIdentifier.
+    /// An AlgorithmIdentifier.
     pub algorithm: Place,
-    /// BIT STRING.
+    /// A BIT STRING.
     pub subject_public_key: Place,
 }
 
@@ -140,15 +140,15 @@ pub struct SubjectPublicKeyInfoAt {
 #[repr(C)]
 #[derive(Clone, Copy, Debug, Default, PartialEq, Eq)]
 pub struct PrivateKeyInfoAt {
-    /// INTEGER.
+    /// An INTEGER.
     pub version: Place,
-    /// AlgorithmIdentifier.
+    /// An AlgorithmIdentifier.
     pub private_key_algorithm: Place,
-    /// OCTET STRING.
+    /// An OCTET STRING.
     pub private_key: Place,
-    /// With their tag \[0\].
+    /// With their implicit tag \[0\].
     pub attributes: Place,
-    /// With its tag \[1\].
+    /// With its implicit tag \[1\].
     pub public_key: Place,
     /// 0 for v1, 1 for v2.
     pub version_number: u64,
@@ -160,17 +160,17 @@ pub struct PrivateKeyInfoAt {
 pub struct CertificationRequestAt {
     /// What the signature covers.
     pub certification_request_info: Place,
-    /// AlgorithmIdentifier.
+    /// An AlgorithmIdentifier.
     pub signature_algorithm: Place,
-    /// BIT STRING.
+    /// A BIT STRING.
     pub signature: Place,
-    /// INTEGER, which is 0.
+    /// An INTEGER, which is 0.
     pub version: Place,
-    /// Name.
+    /// A Name.
     pub subject: Place,
-    /// SubjectPublicKeyInfo.
+    /// A SubjectPublicKeyInfo.
     pub subject_pk_info: Place,
-    /// With their tag \[0\].
+    /// With their implicit tag \[0\].
     pub attributes: Place,
 }
 
@@ -178,13 +178,13 @@ pub struct CertificationRequestAt {
 #[repr(C)]
 #[derive(Clone, Copy, Debug, Default, PartialEq, Eq)]
 pub struct OcspResponseAt {
-    /// ENUMERATED.
+    /// An ENUMERATED.
     pub response_status: Place,
-    /// After their tag \[0\].
+    /// With their explicit tag \[0\].
     pub response_bytes: Place,
-    /// OBJECT IDENTIFIER.
+    /// An OBJECT IDENTIFIER.
     pub response_type: Place,
-    /// OCTET STRING; der_contents returns what der_basic_ocsp_response reads.
+    /// An OCTET STRING; if responseType is id-pkix-ocsp-basic, a BasicOCSPResponse is to be read from its contents octets.
     pub response: Place,
     /// 0 for successful, 1 to 3, 5 or 6.
     pub response_status_number: i64,
@@ -196,21 +196,21 @@ pub struct OcspResponseAt {
 pub struct BasicOcspResponseAt {
     /// What the signature covers.
     pub tbs_response_data: Place,
-    /// AlgorithmIdentifier.
+    /// An AlgorithmIdentifier.
     pub signature_algorithm: Place,
-    /// BIT STRING.
+    /// A BIT STRING.
     pub signature: Place,
-    /// After their tag \[0\].
+    /// With their explicit tag \[0\].
     pub certs: Place,
-    /// After its tag \[0\]; absent where it is the default, v1.
+    /// With its explicit tag \[0\]; absent where it is the default, v1.
     pub version: Place,
-    /// CHOICE: after \[1\] a Name, after \[2\] an OCTET STRING.
+    /// A CHOICE: with the explicit tag \[1\] a Name, with the explicit tag \[2\] an OCTET STRING.
     pub responder_id: Place,
-    /// GeneralizedTime.
+    /// A GeneralizedTime.
     pub produced_at: Place,
-    /// SEQUENCE OF SingleResponse.
+    /// A SEQUENCE OF SingleResponse.
     pub responses: Place,
-    /// After their tag \[1\].
+    /// With their explicit tag \[1\].
     pub response_extensions: Place,
     /// From 1970-01-01T00:00:00Z.
     pub produced_at_seconds: u64,
@@ -222,15 +222,15 @@ pub struct BasicOcspResponseAt {
 pub struct SingleResponseAt {
     /// The whole response; the next one begins after it.
     pub whole: Place,
-    /// CertID.
+    /// A CertID.
     pub cert_id: Place,
-    /// CHOICE: with its tag \[0\], \[1\] or \[2\].
+    /// A CHOICE: with its implicit tag \[0\], \[1\] or \[2\].
     pub cert_status: Place,
-    /// GeneralizedTime.
+    /// A GeneralizedTime.
     pub this_update: Place,
-    /// After its tag \[0\].
+    /// With its explicit tag \[0\].
     pub next_update: Place,
-    /// After their tag \[1\].
+    /// With their explicit tag \[1\].
     pub single_extensions: Place,
     /// From 1970-01-01T00:00:00Z.
     pub this_update_seconds: u64,
@@ -246,9 +246,9 @@ pub struct SingleResponseAt {
 #[repr(C)]
 #[derive(Clone, Copy, Debug, Default, PartialEq, Eq)]
 pub struct ContentInfoAt {
-    /// OBJECT IDENTIFIER.
+    /// An OBJECT IDENTIFIER.
     pub content_type: Place,
-    /// After its tag \[0\]; of id-signedData der_contents returns what der_signed_data reads.
+    /// With its explicit tag \[0\]; if contentType is id-signedData, a SignedData is to be read from its contents octets.
     pub content: Place,
 }
 
@@ -256,21 +256,21 @@ pub struct ContentInfoAt {
 #[repr(C)]
 #[derive(Clone, Copy, Debug, Default, PartialEq, Eq)]
 pub struct SignedDataAt {
-    /// INTEGER.
+    /// An INTEGER.
     pub version: Place,
-    /// SET OF AlgorithmIdentifier.
+    /// A SET OF AlgorithmIdentifier.
     pub digest_algorithms: Place,
-    /// SEQUENCE.
+    /// A SEQUENCE.
     pub encap_content_info: Place,
-    /// With their tag \[0\].
+    /// With their implicit tag \[0\].
     pub certificates: Place,
-    /// With their tag \[1\].
+    /// With their implicit tag \[1\].
     pub crls: Place,
-    /// SET OF SignerInfo.
+    /// A SET OF SignerInfo.
     pub signer_infos: Place,
-    /// OBJECT IDENTIFIER.
+    /// An OBJECT IDENTIFIER.
     pub e_content_type: Place,
-    /// After its tag \[0\]: an OCTET STRING.
+    /// An OCTET STRING with its explicit tag \[0\].
     pub e_content: Place,
     /// 0 to 5.
     pub version_number: u64,
@@ -282,19 +282,19 @@ pub struct SignedDataAt {
 pub struct SignerInfoAt {
     /// The whole signer; the next one begins after it.
     pub whole: Place,
-    /// INTEGER.
+    /// An INTEGER.
     pub version: Place,
-    /// CHOICE: a SEQUENCE of issuer and serial number, or with its tag \[0\] a key's identifier.
+    /// A CHOICE: a SEQUENCE of issuer and serial number, or with its implicit tag \[0\] a key's identifier.
     pub sid: Place,
-    /// AlgorithmIdentifier.
+    /// An AlgorithmIdentifier.
     pub digest_algorithm: Place,
-    /// With their tag \[0\].
+    /// With their implicit tag \[0\].
     pub signed_attrs: Place,
-    /// AlgorithmIdentifier.
+    /// An AlgorithmIdentifier.
     pub signature_algorithm: Place,
-    /// OCTET STRING.
+    /// An OCTET STRING.
     pub signature: Place,
-    /// With their tag \[1\].
+    /// With their implicit tag \[1\].
     pub unsigned_attrs: Place,
     /// 0 to 5.
     pub version_number: u64,
@@ -306,7 +306,7 @@ pub struct SignerInfoAt {
 pub struct AttributeTypeAndValueAt {
     /// The whole attribute; the next one of the same part begins after it.
     pub whole: Place,
-    /// OBJECT IDENTIFIER.
+    /// An OBJECT IDENTIFIER.
     pub type_: Place,
     /// Of any type.
     pub value: Place,
@@ -318,9 +318,9 @@ pub struct AttributeTypeAndValueAt {
 pub struct AttributeAt {
     /// The whole attribute; the next one begins after it.
     pub whole: Place,
-    /// OBJECT IDENTIFIER.
+    /// An OBJECT IDENTIFIER.
     pub type_: Place,
-    /// SET OF.
+    /// A SET OF.
     pub values: Place,
 }
 // end of structs

@@ -12,12 +12,14 @@ pub struct AttributeTypeAndValue<'a> {
 }
 
 impl<'a> AttributeTypeAndValue<'a> {
+    // written by tools/bindings: fields of AttributeTypeAndValue
     fields! {
         /// `type`, an OBJECT IDENTIFIER.
         type_
         /// `value`, of any type.
         value
     }
+    // end of fields of AttributeTypeAndValue
 
     /// The whole attribute.
     pub fn as_bytes(&self) -> &'a [u8] {
@@ -84,12 +86,14 @@ pub struct Attribute<'a> {
 }
 
 impl<'a> Attribute<'a> {
+    // written by tools/bindings: fields of Attribute
     fields! {
         /// `type`, an OBJECT IDENTIFIER.
         type_
         /// `values`, a SET OF.
         values
     }
+    // end of fields of Attribute
 
     /// The whole attribute.
     pub fn as_bytes(&self) -> &'a [u8] {

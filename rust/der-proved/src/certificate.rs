@@ -21,33 +21,35 @@ impl<'a> Certificate<'a> {
         Ok(Certificate { octets, at })
     }
 
+    // written by tools/bindings: fields of Certificate
     fields! {
-        /// `tbsCertificate`: what the signature covers.
+        /// `tbsCertificate`, what the signature covers.
         tbs_certificate
         /// `signatureAlgorithm`, an AlgorithmIdentifier.
         signature_algorithm
         /// `signatureValue`, a BIT STRING.
         signature_value
-        /// `serialNumber`, an INTEGER.
+        /// `serialNumber` of `tbsCertificate`, an INTEGER.
         serial_number
-        /// `signature` of what is signed, an AlgorithmIdentifier.
+        /// `signature` of `tbsCertificate`, an AlgorithmIdentifier.
         signature
-        /// `issuer`, a Name.
+        /// `issuer` of `tbsCertificate`, a Name.
         issuer
-        /// `validity`.
+        /// `validity` of `tbsCertificate`, a SEQUENCE of both dates.
         validity
-        /// `subject`, a Name.
+        /// `subject` of `tbsCertificate`, a Name.
         subject
-        /// `subjectPublicKeyInfo`, which `SubjectPublicKeyInfo::from_der` reads.
+        /// `subjectPublicKeyInfo` of `tbsCertificate`, a SubjectPublicKeyInfo.
         subject_public_key_info
     }
 
     optional_fields! {
-        /// `issuerUniqueID` with its tag [1].
+        /// `issuerUniqueID` of `tbsCertificate`, with its implicit tag \[1\].
         issuer_unique_id
-        /// `subjectUniqueID` with its tag [2].
+        /// `subjectUniqueID` of `tbsCertificate`, with its implicit tag \[2\].
         subject_unique_id
     }
+    // end of fields of Certificate
 
     /// The attributes of `issuer`, in their order.
     pub fn issuer_attributes(&self) -> Name<'a> {
@@ -100,12 +102,14 @@ pub struct Extension<'a> {
 }
 
 impl<'a> Extension<'a> {
+    // written by tools/bindings: fields of Extension
     fields! {
         /// `extnID`, an OBJECT IDENTIFIER.
         extn_id
         /// `extnValue`, an OCTET STRING.
         extn_value
     }
+    // end of fields of Extension
 
     /// The whole extension.
     pub fn as_bytes(&self) -> &'a [u8] {

@@ -21,18 +21,20 @@ impl<'a> CertificateList<'a> {
         Ok(CertificateList { octets, at })
     }
 
+    // written by tools/bindings: fields of CertificateList
     fields! {
-        /// `tbsCertList`: what the signature covers.
+        /// `tbsCertList`, what the signature covers.
         tbs_cert_list
         /// `signatureAlgorithm`, an AlgorithmIdentifier.
         signature_algorithm
         /// `signatureValue`, a BIT STRING.
         signature_value
-        /// `signature` of what is signed, an AlgorithmIdentifier.
+        /// `signature` of `tbsCertList`, an AlgorithmIdentifier.
         signature
-        /// `issuer`, a Name.
+        /// `issuer` of `tbsCertList`, a Name.
         issuer
     }
+    // end of fields of CertificateList
 
     /// 1 or 2; one more than the number that stands in `version`.
     pub fn version(&self) -> u64 {
@@ -73,6 +75,7 @@ pub struct RevokedCertificate<'a> {
 }
 
 impl<'a> RevokedCertificate<'a> {
+    // written by tools/bindings: fields of RevokedCertificate
     fields! {
         /// `userCertificate`, an INTEGER.
         user_certificate
@@ -82,6 +85,7 @@ impl<'a> RevokedCertificate<'a> {
         /// `crlEntryExtensions`, a SEQUENCE OF.
         crl_entry_extensions
     }
+    // end of fields of RevokedCertificate
 
     /// The whole entry.
     pub fn as_bytes(&self) -> &'a [u8] {

@@ -21,12 +21,15 @@ impl<'a> ContentInfo<'a> {
         Ok(ContentInfo { octets, at })
     }
 
+    // written by tools/bindings: fields of ContentInfo
     fields! {
         /// `contentType`, an OBJECT IDENTIFIER.
         content_type
-        /// `content` with its tag [0], of which `SignedData::from_der` reads the contents.
+        /// `content`, with its explicit tag \[0\]; if contentType is id-signedData, a SignedData is to be read from its
+        /// contents octets.
         content
     }
+    // end of fields of ContentInfo
 }
 
 /// A SignedData (RFC 5652 5.1).
@@ -46,21 +49,23 @@ impl<'a> SignedData<'a> {
         Ok(SignedData { octets, at })
     }
 
+    // written by tools/bindings: fields of SignedData
     fields! {
-        /// `digestAlgorithms`, a SET OF.
+        /// `digestAlgorithms`, a SET OF AlgorithmIdentifier.
         digest_algorithms
         /// `eContentType` of `encapContentInfo`, an OBJECT IDENTIFIER.
         e_content_type
     }
 
     optional_fields! {
-        /// `certificates` with their tag [0].
+        /// `certificates`, with their implicit tag \[0\].
         certificates
-        /// `crls` with their tag [1].
+        /// `crls`, with their implicit tag \[1\].
         crls
-        /// `eContent` of `encapContentInfo` with its tag [0]: an OCTET STRING.
+        /// `eContent` of `encapContentInfo`, an OCTET STRING with its explicit tag \[0\].
         e_content
     }
+    // end of fields of SignedData
 
     /// `version`, 0 to 5.
     pub fn version(&self) -> u64 {
@@ -81,8 +86,9 @@ pub struct SignerInfo<'a> {
 }
 
 impl<'a> SignerInfo<'a> {
+    // written by tools/bindings: fields of SignerInfo
     fields! {
-        /// `sid`: a SEQUENCE of issuer and serial number, or with its tag [0] a key's identifier.
+        /// `sid`, a CHOICE: a SEQUENCE of issuer and serial number, or with its implicit tag \[0\] a key's identifier.
         sid
         /// `digestAlgorithm`, an AlgorithmIdentifier.
         digest_algorithm
@@ -93,11 +99,12 @@ impl<'a> SignerInfo<'a> {
     }
 
     optional_fields! {
-        /// `signedAttrs` with their tag [0].
+        /// `signedAttrs`, with their implicit tag \[0\].
         signed_attrs
-        /// `unsignedAttrs` with their tag [1].
+        /// `unsignedAttrs`, with their implicit tag \[1\].
         unsigned_attrs
     }
+    // end of fields of SignerInfo
 
     /// The whole SignerInfo.
     pub fn as_bytes(&self) -> &'a [u8] {

@@ -21,12 +21,14 @@ impl<'a> SubjectPublicKeyInfo<'a> {
         Ok(SubjectPublicKeyInfo { octets, at })
     }
 
+    // written by tools/bindings: fields of SubjectPublicKeyInfo
     fields! {
         /// `algorithm`, an AlgorithmIdentifier.
         algorithm
         /// `subjectPublicKey`, a BIT STRING.
         subject_public_key
     }
+    // end of fields of SubjectPublicKeyInfo
 }
 
 /// A PrivateKeyInfo, which is a OneAsymmetricKey (RFC 5958 section 2). `Debug` shows no octets of it.
@@ -46,6 +48,7 @@ impl<'a> PrivateKeyInfo<'a> {
         Ok(PrivateKeyInfo { octets, at })
     }
 
+    // written by tools/bindings: fields of PrivateKeyInfo
     fields! {
         /// `privateKeyAlgorithm`, an AlgorithmIdentifier.
         private_key_algorithm
@@ -54,11 +57,12 @@ impl<'a> PrivateKeyInfo<'a> {
     }
 
     optional_fields! {
-        /// `attributes` with their tag [0].
+        /// `attributes`, with their implicit tag \[0\].
         attributes
-        /// `publicKey` with its tag [1].
+        /// `publicKey`, with its implicit tag \[1\].
         public_key
     }
+    // end of fields of PrivateKeyInfo
 
     /// 1 or 2; one more than the number that stands in `version`.
     pub fn version(&self) -> u64 {

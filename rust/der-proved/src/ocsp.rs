@@ -26,12 +26,15 @@ impl<'a> OcspResponse<'a> {
         self.at.response_status_number
     }
 
+    // written by tools/bindings: fields of OCSPResponse
     optional_fields! {
         /// `responseType` of `responseBytes`, an OBJECT IDENTIFIER.
         response_type
-        /// `response` of `responseBytes`, an OCTET STRING, of which `BasicOcspResponse::from_der` reads the contents.
+        /// `response` of `responseBytes`, an OCTET STRING; if responseType is id-pkix-ocsp-basic, a BasicOCSPResponse
+        /// is to be read from its contents octets.
         response
     }
+    // end of fields of OCSPResponse
 }
 
 /// A BasicOCSPResponse (RFC 6960 4.2.1).
@@ -51,21 +54,24 @@ impl<'a> BasicOcspResponse<'a> {
         Ok(BasicOcspResponse { octets, at })
     }
 
+    // written by tools/bindings: fields of BasicOCSPResponse
     fields! {
-        /// `tbsResponseData`: what the signature covers.
+        /// `tbsResponseData`, what the signature covers.
         tbs_response_data
         /// `signatureAlgorithm`, an AlgorithmIdentifier.
         signature_algorithm
         /// `signature`, a BIT STRING.
         signature
-        /// `responderID`, with its tag [1] or [2].
+        /// `responderID` of `tbsResponseData`, a CHOICE: with the explicit tag \[1\] a Name, with the explicit tag
+        /// \[2\] an OCTET STRING.
         responder_id
     }
 
     optional_fields! {
-        /// `certs` with their tag [0].
+        /// `certs`, with their explicit tag \[0\].
         certs
     }
+    // end of fields of BasicOCSPResponse
 
     /// `producedAt`, in seconds from 1970-01-01T00:00:00Z.
     pub fn produced_at(&self) -> u64 {
@@ -102,10 +108,12 @@ pub struct SingleResponse<'a> {
 }
 
 impl<'a> SingleResponse<'a> {
+    // written by tools/bindings: fields of SingleResponse
     fields! {
-        /// `certID`.
+        /// `certID`, a CertID.
         cert_id
     }
+    // end of fields of SingleResponse
 
     /// The whole answer.
     pub fn as_bytes(&self) -> &'a [u8] {

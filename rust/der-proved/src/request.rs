@@ -21,18 +21,20 @@ impl<'a> CertificationRequest<'a> {
         Ok(CertificationRequest { octets, at })
     }
 
+    // written by tools/bindings: fields of CertificationRequest
     fields! {
-        /// `certificationRequestInfo`: what the signature covers.
+        /// `certificationRequestInfo`, what the signature covers.
         certification_request_info
         /// `signatureAlgorithm`, an AlgorithmIdentifier.
         signature_algorithm
         /// `signature`, a BIT STRING.
         signature
-        /// `subject`, a Name.
+        /// `subject` of `certificationRequestInfo`, a Name.
         subject
-        /// `subjectPKInfo`, which `SubjectPublicKeyInfo::from_der` reads.
+        /// `subjectPKInfo` of `certificationRequestInfo`, a SubjectPublicKeyInfo.
         subject_pk_info
     }
+    // end of fields of CertificationRequest
 
     /// The attributes of `subject`, in their order.
     pub fn subject_attributes(&self) -> Name<'a> {

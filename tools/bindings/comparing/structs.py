@@ -68,7 +68,7 @@ def compare_struct(root: Path, struct: Struct, call: Call) -> list[Difference]:
 def entries_of(group: Group) -> list[Entry]:
     """The members of the struct of der_c that are a group: one, or the numbers."""
     if group.member == "numbers":
-        return [(field.name_in_der_c, field.type) for field in group.fields]
+        return [(field.name_elsewhere, field.type) for field in group.fields]
     return [(group.member, group.type)]
 
 

@@ -5,14 +5,18 @@ from __future__ import annotations
 import re
 from collections.abc import Iterable
 
+from asn1.spelling import snake
+
 from .lines import Line, lines_of
-from .structs import SIZES, Field, Group, Next, Struct
+from .structs import ACCESS, SIZES, Field, Group, Next, Struct
 
 HEAD = re.compile(r"^([a-z][a-z0-9_]*): ([A-Z]\w+) \((RFC [^()|]+)\) \| ([^|]+)$")
+FILE = re.compile(r"^[a-z_]+$")
 KEY = re.compile(r"^([a-z_]+):(?: (.*))?$")
-FIELD = re.compile(r"^([a-z][a-z0-9_]*)(?:=([a-z][a-z0-9_]*))? (\w+) (.+)$")
+PLACE = re.compile(rf"^([a-z][A-Za-z0-9]*) ({'|'.join(ACCESS)}) (.+)$")
+NUMBER = re.compile(r"^([a-z][a-z0-9_]*)(?:=([a-z][a-z0-9_]*))? (u32|u64|i64) (.+)$")
 NEXT = re.compile(r"^(?:written; (.+)|by hand (der_next_\w+))$")
-WORDS = ("reads", "next", "note", "results")
+WORDS = ("file", "reads", "next", "note", "results")
 
 
 def structs_of(file: str, text: str) -> list[Struct]:
@@ -52,7 +56,7 @@ def struct_of(head: Line, lines: list[Line]) -> Struct:
         else:
             said[key[1]].append(key[2])
     struct = Struct(
-        *read.groups(), said["reads"] == ["front"], next_of(head, read[1], said),
+        *read.groups(), " ".join(said["file"]), said["reads"] == ["front"], next_of(head, read[1], said),
         tuple(said["note"]), "; ".join(said["results"]), tuple(groups),
     )
     check_struct(head, struct, said["reads"])
@@ -73,21 +77,28 @@ def group_of(line: Line, member: str, text: str, lines: list[Line]) -> Group:
     type_, _, within = text.partition(", ")
     if (member == "numbers") != (text == ""):
         raise line.error("a member has a type of der_c or der_places, and 'numbers' has none")
-    fields = tuple(field_of(it) for it, _ in blocks(lines, 2))
+    read = number_of if member == "numbers" else place_of
+    fields = tuple(read(it) for it, _ in blocks(lines, 2))
     if not fields:
         raise line.error(f"{member} has no fields")
-    if any(field.is_place == (member == "numbers") for field in fields):
-        raise line.error("places are fields of a member, and numbers those of 'numbers'")
+    if any(field.phrase.endswith(".") for field in fields):
+        raise line.error("a phrase has no full stop")
     return Group(member, type_, within, fields)
 
 
-def field_of(line: Line) -> Field:
-    read = FIELD.match(line.text)
-    if not read or read[3] not in SIZES:
-        raise line.error("a field has a name, a type (place, u32, u64 or i64) and a sentence")
-    if read[4].endswith("."):
-        raise line.error("the sentence has no full stop")
-    return Field(read[1], read[2] or re.sub("_(number|seconds)$", "", read[1]), read[3], read[4])
+def place_of(line: Line) -> Field:
+    """A field that is a place. Its name in C is the one that tools/asn1 gives the field."""
+    read = PLACE.match(line.text)
+    if not read:
+        raise line.error("a field has a name in ASN.1, 'field', 'optional' or 'place', and a phrase")
+    return Field(snake(read[1]).rstrip("_"), read[1], "place", read[2], read[3])
+
+
+def number_of(line: Line) -> Field:
+    read = NUMBER.match(line.text)
+    if not read:
+        raise line.error("a number has a name in C, a type (u32, u64 or i64) and a phrase")
+    return Field(read[1], read[2] or re.sub("_(number|seconds)$", "", read[1]), read[3], "", read[4])
 
 
 def check_struct(head: Line, struct: Struct, reads: list[str]) -> None:
@@ -96,6 +107,7 @@ def check_struct(head: Line, struct: Struct, reads: list[str]) -> None:
     whole = [group.type == "Place" for group in struct.groups]
     wrong = [
         (reads not in (["all"], ["front"]), "'reads:' says all or front"),
+        (not FILE.match(struct.file), "'file:' names the file of the packages, without its ending"),
         (len(set(names)) != len(names), "two fields have one name"),
         (not struct.places, "it has no places"),
         (any(group.member == "numbers" for group in struct.groups[:-1]), "numbers stand after the places"),

@@ -5,16 +5,18 @@ from __future__ import annotations
 from dataclasses import dataclass
 
 SIZES = {"place": 8, "u32": 4, "u64": 8, "i64": 8}
+ACCESS = ("field", "optional", "place")  # how the packages return a place: it is always there; it may be absent; not by its name
 
 
 @dataclass(frozen=True)
 class Field:
-    """A field of a struct: its name in C and in der_c, its type, and a sentence without a full stop."""
+    """A field of a struct: its name in C, its type, and a phrase that says what it is."""
 
     name: str
-    name_in_der_c: str
+    name_elsewhere: str  # of a place in ASN.1, of a number in der_c
     type: str
-    sentence: str
+    access: str  # of a place; '' of a number
+    phrase: str
 
     @property
     def is_place(self) -> bool:
@@ -48,6 +50,7 @@ class Struct:
     type: str  # of ASN.1
     standard: str  # that has the type, with the section
     noun: str
+    file: str  # of the packages for Rust and Go, without its ending
     is_front: bool  # the message stands at the front of the octets
     next: Next | None
     notes: tuple[str, ...]

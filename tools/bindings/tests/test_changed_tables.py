@@ -65,15 +65,29 @@ class ChangedRules(TreeTest):
 
 class ChangedStructs(TreeTest):
     C_OF_PYTHON = {"python/src/derproved/classes.h", "python/src/derproved/message.c", "python/src/derproved/_der.pyi"}
+    CMS = ("rust/der-proved/src/cms.rs", "go/der/cms.go")
     PLACES_OF_SIGNER = "crates/der_places/src/cms/signer_info.rt"
 
     def test_another_name_of_a_place(self) -> None:
-        self.change(STRUCTS, "        sid place CHOICE", "        signer place CHOICE")
-        self.assertEqual(self.files_told(), {HEADER, SYS, PLACES, self.PLACES_OF_SIGNER})
+        self.change(STRUCTS, "        sid field a CHOICE", "        signerID field a CHOICE")
+        self.assertEqual(self.files_told(), {HEADER, SYS, PLACES, PYTHON, *self.CMS, self.PLACES_OF_SIGNER})
+
+    def test_another_access(self) -> None:
+        self.change(STRUCTS, "        sid field a CHOICE", "        sid optional a CHOICE")
+        self.assertEqual(self.files_told(), {PYTHON, *self.CMS})
+        self.assertEqual(self.run_tool(), (0, []))
+
+    def test_another_file(self) -> None:
+        text = self.text(STRUCTS)
+        start = text.index("certificate_list: ")
+        self.change(STRUCTS, text[start:], text[start:].replace("file: certificate_list", "file: request", 1))
+        self.assertEqual(self.files_told(), {f"{file}.{end}" for file, end in (
+            ("rust/der-proved/src/certificate_list", "rs"), ("rust/der-proved/src/request", "rs"),
+            ("go/der/certificate_list", "go"), ("go/der/request", "go"))})
 
     def test_another_order(self) -> None:
-        self.change(STRUCTS, "        this_update place GeneralizedTime\n        next_update place after its tag [0]\n",
-                    "        next_update place after its tag [0]\n        this_update place GeneralizedTime\n")
+        self.change(STRUCTS, "        thisUpdate place a GeneralizedTime\n        nextUpdate place with its explicit tag [0]\n",
+                    "        nextUpdate place with its explicit tag [0]\n        thisUpdate place a GeneralizedTime\n")
         self.assertEqual(self.files_told(), {HEADER, SYS, PLACES, "crates/der_places/src/ocsp/single_response.rt"})
 
     def test_another_number(self) -> None:
@@ -85,8 +99,8 @@ class ChangedStructs(TreeTest):
         self.assertEqual(self.files_told(), {"crates/der_c/src/certification_request.rt"})
 
     def test_another_sentence(self) -> None:
-        self.change(STRUCTS, "        sid place CHOICE: ", "        sid place one of: ")
-        self.assertEqual(self.files_told(), {HEADER, SYS})
+        self.change(STRUCTS, "        sid field a CHOICE: ", "        sid field one of: ")
+        self.assertEqual(self.files_told(), {HEADER, SYS, PYTHON, *self.CMS})
 
     def test_another_source(self) -> None:
         self.change(STRUCTS, "signer_info: SignerInfo (RFC 5652 5.3)", "signer_info: SignerInfo (RFC 2630 5.3)")
@@ -97,18 +111,20 @@ class ChangedStructs(TreeTest):
         self.assertEqual(self.files_told(), {"docs/C.md"})
 
     def test_a_place_more(self) -> None:
-        self.change(STRUCTS, "        e_content place", "        more place what follows\n        e_content place")
-        expected = {HEADER, SYS, PLACES, "python/src/derproved/message.c", "docs/C.md", "crates/der_places/src/cms/encapsulated_content_info.rt"}
+        self.change(STRUCTS, "        eContent optional", "        more place what follows\n        eContent optional")
+        expected = {HEADER, SYS, PLACES, PYTHON, "python/src/derproved/message.c", "docs/C.md", "crates/der_places/src/cms/encapsulated_content_info.rt"}
         self.assertEqual(self.files_told(), expected)
 
     def test_a_struct_less(self) -> None:
         text = self.text(STRUCTS)
         start = text.index("attribute: Attribute ")
         self.change(STRUCTS, text[start:], "")
-        self.assertEqual(self.files_told(), {HEADER, SYS, PLACES, "docs/C.md", "crates/der_c/src/attribute.rt", *self.C_OF_PYTHON})
+        expected = {HEADER, SYS, PLACES, PYTHON, "docs/C.md", "crates/der_c/src/attribute.rt", *self.C_OF_PYTHON}
+        self.assertEqual(self.files_told(), expected | {"rust/der-proved/src/attribute.rs", "go/der/attribute.go"})
 
     def test_a_struct_more(self) -> None:
-        more = "key: Key (RFC 1 2.3) | key\n    reads: all\n    out: KeyPlaces\n        octets place OCTET STRING\n"
+        more = "key: Key (RFC 1 2.3) | key\n    file: key\n    reads: all\n    out: KeyPlaces\n        octets field an OCTET STRING\n"
         text = self.text(STRUCTS)
         self.change(STRUCTS, text, f"{text}\n{more}")
-        self.assertEqual(self.files_told(), {HEADER, SYS, PLACES, "docs/C.md", "crates/der_c/src", *self.C_OF_PYTHON})
+        expected = {HEADER, SYS, PLACES, PYTHON, "docs/C.md", "crates/der_c/src", *self.C_OF_PYTHON}
+        self.assertEqual(self.files_told(), expected | {"rust/der-proved/src/key.rs", "go/der/key.go"})

@@ -24,7 +24,7 @@ FINDINGS = "crates/certview_text/src/findings.rt"
 WRITTEN = [
     (HEADER, "DER_CERTIFICATE_ISSUER_NOT_EMPTY = 1 << 4", "DER_CERTIFICATE_ISSUER_NOT_EMPTY = 1 << 5", 0),
     (HEADER, "DER_LIST_NEXT_UPDATE_THERE =", "DER_LIST_NEXT_UPDATE_IS_THERE =", 0),
-    (HEADER, "    der_place encap_content_info; ", "    der_place encapsulated_content; ", 0),
+    (HEADER, "    der_place encap_content_info;", "    der_place encapsulated_content;", 0),
     (HEADER, "sizeof(der_signer_info_at) == 72", "sizeof(der_signer_info_at) == 80", 0),
     (HEADER, "uint32_t der_content_info(const", "uint32_t der_content(const", 0),
     (HEADER, "#define der_extension der_checked_extension\n", "", 0),
@@ -44,6 +44,12 @@ WRITTEN = [
     ("python/src/derproved/message.c", "A(signed_data, SignedData, 8, 1, true) ", "A(signed_data, SignedData, 7, 1, true) ", 0),
     (PAGE, "| `NameConstraintsIsCritical` | 4.2.1.10 |", "| `NameConstraintsIsCritical` | 4.2.1.11 |", 0),
     (PAGE, "| `EmptyListIsAbsent` | 5.1.2.6 | an empty", "| `EmptyListIsAbsent` | 5.1.2.6 | a long", 0),
+    ("rust/der-proved/src/cms.rs", "        digest_algorithms\n", "        digests\n", 0),
+    ("rust/der-proved/src/key.rs", "    optional_fields! {\n", "    fields! {\n", 0),
+    ("go/der/ocsp.go", "CertID() []byte { return at(s.octets, s.at.cert_id) }", "CertID() []byte { return at(s.octets, s.at.whole) }", 0),
+    ("go/der/attribute.go", "// Value returns value, of any type.\n", "", 0),
+    (PYTHON, "    serial_number = _der.field(4,", "    serial_number = _der.field(3,", 0),
+    (PYTHON, "    e_content = _der.optional(", "    e_content = _der.field(", 0),
     ("docs/C.md", "3 fields and 10 of `tbsCertificate`", "3 fields and 9 of `tbsCertificate`", 0),
 ]
 COMPARED = [

@@ -4,7 +4,7 @@ from __future__ import annotations
 
 import unittest
 
-from ..names import camel, capitals, field_in_rust, rule_in_c, rule_in_go, with_article
+from ..names import camel, capitals, field_in_go, field_in_rust, field_of_c_in_go, rule_in_c, rule_in_go, with_article
 from ..tables.rules import Rule, rules_of
 from ..tables.structs import Field
 from ..wrapping import WIDTH, aligned, call_in_c, call_in_rust, comment_in_c
@@ -13,6 +13,10 @@ from ..writers.structs_in_c import counted
 
 def rule(name: str, more: str = "") -> Rule:
     return rules_of("table.txt", f"list | 0 | {name} | 5.1 | It holds | nothing{more}\n")[0]
+
+
+def place(name: str) -> Field:
+    return Field(name, name, "place", "field", "an INTEGER")
 
 
 class Names(unittest.TestCase):
@@ -26,8 +30,14 @@ class Names(unittest.TestCase):
 
     def test_of_structs(self) -> None:
         self.assertEqual(camel("certificate_list"), "CertificateList")
-        self.assertEqual(field_in_rust(Field("type", "type", "place", "OBJECT IDENTIFIER")), "type_")
-        self.assertEqual(field_in_rust(Field("types", "types", "place", "SET OF")), "types")
+        self.assertEqual(field_in_rust(place("type")), "type_")
+        self.assertEqual(field_in_rust(place("types")), "types")
+        self.assertEqual([field_of_c_in_go(place(name)) for name in ("type", "types")], ["_type", "types"])
+
+    def test_of_fields_in_go(self) -> None:
+        names = {"tbsCertList": "TBSCertList", "crls": "CRLs", "sid": "SID", "crlEntryExtensions": "CRLEntryExtensions", "certID": "CertID",
+                 "eContent": "EContent", "subjectPKInfo": "SubjectPKInfo", "type": "Type"}
+        self.assertEqual({name: field_in_go(place(name)) for name in names}, names)
 
     def test_articles(self) -> None:
         self.assertEqual([with_article(noun) for noun in ("key", "entry", "OCSP response")], ["a key", "an entry", "an OCSP response"])
@@ -58,7 +68,7 @@ class Lines(unittest.TestCase):
         self.assertEqual(aligned([("a;", "/* x */"), ("abc;", "/* y */")]), ["a;   /* x */", "abc; /* y */"])
 
     def test_counts(self) -> None:
-        place, number, small = (Field("a", "a", type_, "x") for type_ in ("place", "i64", "u32"))
-        self.assertEqual(counted([place]), "1 place")
-        self.assertEqual(counted([place, place, number]), "2 places and 1 number of 64 bits")
-        self.assertEqual(counted([place, small, small]), "1 place and 2 numbers of 32 bits")
+        one, number, small = (Field("a", "a", type_, "", "x") for type_ in ("place", "i64", "u32"))
+        self.assertEqual(counted([one]), "1 place")
+        self.assertEqual(counted([one, one, number]), "2 places and 1 number of 64 bits")
+        self.assertEqual(counted([one, small, small]), "1 place and 2 numbers of 32 bits")

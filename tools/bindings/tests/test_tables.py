@@ -12,8 +12,9 @@ FIRST = "certificate | 0 | AlgorithmsAgree | 4.1.1.2, 4.1.2.3 | The algorithms a
 SECOND = "certificate | 1 | IssuerIsNotEmpty | 4.1.2.4 | The issuer is not empty | an empty issuer | C: ISSUER\n"
 
 HEAD = "key: Key (RFC 1 2.3) | key\n"
-READS = "    reads: all\n"
-OUT = "    out: KeyPlaces\n        octets place OCTET STRING\n"
+FILE = "    file: keys\n"
+READS = FILE + "    reads: all\n"
+OUT = "    out: KeyPlaces\n        keyID field an OCTET STRING\n"
 NUMBERS = "    numbers:\n        version_number u64 0 for v1\n"
 RESULTS = "    results: the version\n"
 
@@ -74,40 +75,76 @@ class Structs(Refused):
     def test_a_table(self) -> None:
         (struct,) = structs_of("table.txt", HEAD + READS + RESULTS + OUT + NUMBERS)
         self.assertEqual((struct.name, struct.type, struct.standard, struct.noun), ("key", "Key", "RFC 1 2.3", "key"))
-        self.assertEqual([(it.name, it.name_in_der_c, it.type) for it in struct.fields],
-                         [("octets", "octets", "place"), ("version_number", "version", "u64")])
-        self.assertEqual((struct.is_front, struct.next, struct.size, struct.results), (False, None, 16, "the version"))
+        self.assertEqual((struct.file, struct.is_front, struct.next, struct.size), ("keys", False, None, 16))
+        self.assertEqual(struct.results, "the version")
+        self.assertEqual([(it.name, it.name_elsewhere, it.type, it.access, it.phrase) for it in struct.fields], [
+            ("key_id", "keyID", "place", "field", "an OCTET STRING"),
+            ("version_number", "version", "u64", "", "0 for v1"),
+        ])
 
-    def test_what_is_refused(self) -> None:
+    def test_a_number_with_another_name_in_der_c(self) -> None:
+        (struct,) = structs_of("table.txt", HEAD + READS + RESULTS + OUT + NUMBERS.replace("version_number", "version_number=first"))
+        self.assertEqual([(it.name, it.name_elsewhere) for it in struct.numbers], [("version_number", "first")])
+
+    def test_one_that_stands_at_the_front(self) -> None:
         whole = "    whole: Place\n        whole place the whole\n"
-        front = HEAD + "    reads: front\n"
-        next_ = "    next: written; the items\n"
+        for next_, expected in [("written; the items", ("der_next_key", True, "the items")), ("by hand der_next_one", ("der_next_one", False, ""))]:
+            (struct,) = structs_of("table.txt", f"{HEAD}{FILE}    reads: front\n    next: {next_}\n{whole}{OUT.replace('out', 'fields')}")
+            assert struct.next
+            self.assertTrue(struct.is_front)
+            self.assertEqual((struct.next.name, struct.next.is_written, struct.next.left), expected)
+
+    def test_heads_and_words_that_are_refused(self) -> None:
         for text, expected in [
             ("key: Key | key\n", "1 a struct begins with 'NAME: TYPE (STANDARD) | what it is'"),
             (READS, "1 this line belongs to none before it"),
-            (HEAD + READS + OUT + HEAD + READS + OUT, "5 another struct has the name key"),
-            (HEAD + "    reads: some\n" + OUT, "1 key: 'reads:' says all or front"),
-            (HEAD + OUT, "1 key: 'reads:' says all or front"),
+            (HEAD + READS + OUT + HEAD + READS + OUT, "6 another struct has the name key"),
+            (HEAD + FILE + "    reads: some\n" + OUT, "1 key: 'reads:' says all or front"),
+            (HEAD + FILE + OUT, "1 key: 'reads:' says all or front"),
+            (HEAD + "    reads: all\n" + OUT, "1 key: 'file:' names the file of the packages, without its ending"),
+            (HEAD + FILE + READS + OUT, "1 key: 'file:' names the file of the packages, without its ending"),
             (HEAD + "    all octets\n" + OUT, "2 a word and a colon stand here"),
-            (HEAD + READS + "        octets place OCTET STRING\n", "2 'reads:' has a text, and no fields"),
-            (HEAD + READS + "    out:\n        octets place OCTET STRING\n", "3 a member has a type of der_c or der_places, and 'numbers' has none"),
-            (HEAD + READS + "    out: KeyPlaces\n", "3 out has no fields"),
-            (HEAD + READS + OUT.replace("place", "octets"), "4 a field has a name, a type (place, u32, u64 or i64) and a sentence"),
-            (HEAD + READS + OUT.replace("STRING", "STRING."), "4 the sentence has no full stop"),
-            (HEAD + READS + OUT.replace("place", "u32"), "3 places are fields of a member, and numbers those of 'numbers'"),
-            (HEAD + READS + OUT + "        octets place the same\n", "1 key: two fields have one name"),
+            (HEAD + READS + "        keyID field an OCTET STRING\n", "3 'reads:' has a text, and no fields"),
+        ]:
+            with self.subTest(expected=expected):
+                self.assertEqual(self.refused(structs_of, text), expected)
+
+    def test_fields_that_are_refused(self) -> None:
+        of_a_field = "5 a field has a name in ASN.1, 'field', 'optional' or 'place', and a phrase"
+        of_a_number = "7 a number has a name in C, a type (u32, u64 or i64) and a phrase"
+        head = HEAD + READS + RESULTS
+        for text, expected in [
+            (HEAD + READS + "    out:\n        keyID field a key\n", "4 a member has a type of der_c or der_places, and 'numbers' has none"),
+            (HEAD + READS + "    numbers: KeyPlaces\n        a u64 one\n", "4 a member has a type of der_c or der_places, and 'numbers' has none"),
+            (HEAD + READS + "    out: KeyPlaces\n", "4 out has no fields"),
+            (HEAD + READS + OUT.replace(" field", " octets"), of_a_field),
+            (HEAD + READS + OUT.replace("keyID", "key_id"), of_a_field),
+            (HEAD + READS + OUT.replace(" field", " u64"), of_a_field),
+            (HEAD + READS + OUT.replace("STRING", "STRING."), "4 a phrase has no full stop"),
+            (HEAD + READS + OUT + NUMBERS.replace(" u64", " place"), of_a_number),
+            (HEAD + READS + OUT + NUMBERS.replace("version_number", "versionNumber"), of_a_number),
+            (HEAD + READS + OUT + "        keyID place the same\n", "1 key: two fields have one name"),
             (HEAD + READS + RESULTS + NUMBERS, "1 key: it has no places"),
             (HEAD + READS + RESULTS + NUMBERS + OUT, "1 key: numbers stand after the places"),
             (HEAD + READS + OUT + NUMBERS, "1 key: 'results:' says what the numbers are"),
             (HEAD + READS + RESULTS + OUT, "1 key: 'results:' says what the numbers are"),
+            (head + OUT + "    numbers:\n        a u32 one\n        b u64 two\n", "1 key: there is a gap before b"),
+            (head + OUT + "    numbers:\n        b u64 two\n        a u32 one\n", "1 key: there is a gap after the last field"),
+        ]:
+            with self.subTest(expected=expected):
+                self.assertEqual(self.refused(structs_of, text), expected)
+
+    def test_what_stands_at_the_front_and_is_refused(self) -> None:
+        whole = "    whole: Place\n        whole place the whole\n"
+        front = HEAD + FILE + "    reads: front\n"
+        next_ = "    next: written; the items\n"
+        for text, expected in [
             (HEAD + READS + whole + OUT, "1 key: the place 'whole' stands first, at the front alone"),
             (front + next_ + OUT, "1 key: the place 'whole' stands first, at the front alone"),
             (front + whole + OUT, "1 key: 'next:' is said of those at the front, and of no other"),
             (HEAD + READS + next_ + OUT, "1 key: 'next:' is said of those at the front, and of no other"),
             (front + "    next: written\n" + whole + OUT,
              "1 'next:' says 'written; ' and what is left at first, or 'by hand ' and the name of the call"),
-            (HEAD + READS + RESULTS + OUT + "    numbers:\n        a u32 one\n        b u64 two\n", "1 key: there is a gap before b"),
-            (HEAD + READS + RESULTS + OUT + "    numbers:\n        b u64 two\n        a u32 one\n", "1 key: there is a gap after the last field"),
         ]:
             with self.subTest(expected=expected):
                 self.assertEqual(self.refused(structs_of, text), expected)

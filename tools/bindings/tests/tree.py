@@ -11,9 +11,12 @@ from pathlib import Path
 
 from ..command import ROOT, RULES, STRUCTS, main, parts
 from ..comparing import findings, pages, rules, structs
+from ..regions import text_of
+from ..tables.reading import structs_of
 
 FOLDERS = (structs.FOLDER, structs.PLACES, "crates/der_verify/src", "crates/der_verify/specs")
-FILES = (RULES, STRUCTS, findings.FILE, pages.FILE, rules.BITS, *parts([], []))
+WRITTEN = parts([], structs_of(STRUCTS, text_of(ROOT / STRUCTS)))
+FILES = (RULES, STRUCTS, findings.FILE, pages.FILE, rules.BITS, *WRITTEN)
 
 
 class TreeTest(unittest.TestCase):

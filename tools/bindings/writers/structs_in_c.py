@@ -29,7 +29,7 @@ def typedef(struct: Struct) -> list[str]:
             run = []
         if group.within:
             lines.append(f"    /* the fields of {group.within} */")
-        run += [(f"    {TYPES[it.type]} {it.name};", f"/* {it.sentence} */") for it in group.fields]
+        run += [(f"    {TYPES[it.type]} {it.name};", f"/* {it.phrase} */") for it in group.fields]
     return [*lines, *aligned(run), f"}} {name};"]
 
 

@@ -2,7 +2,7 @@
 
 from __future__ import annotations
 
-from ..names import capital, field_in_rust, struct_in_c, struct_in_rust, with_article
+from ..names import capital, field_in_rust, struct_in_c, struct_in_rust, with_article, without_links
 from ..tables.structs import Struct
 from ..wrapping import call_in_rust
 
@@ -19,14 +19,9 @@ def structs(found: list[Struct]) -> list[str]:
             f"pub struct {struct_in_rust(struct)} {{",
         ]
         for field in struct.fields:
-            lines += [f"    /// {documented(field.sentence)}.", f"    pub {field_in_rust(field)}: {TYPES[field.type]},"]
+            lines += [f"    /// {without_links(capital(field.phrase))}.", f"    pub {field_in_rust(field)}: {TYPES[field.type]},"]
         lines += ["}", ""]
     return lines[:-1]
-
-
-def documented(sentence: str) -> str:
-    """A sentence as the documentation of a field: tags in brackets are no links."""
-    return capital(sentence).replace("[", "\\[").replace("]", "\\]")
 
 
 def calls(found: list[Struct]) -> list[str]:
