@@ -28,6 +28,9 @@ CALLS = """abi_version attribute attribute_type_and_value basic_ocsp_response ca
 certification_request check_rfc5280 check_rfc5280_list content_info contents extension next_encoding number_text
 ocsp_response private_key_info revoked_certificate signed_data signed_octets signer_info single_response
 subject_public_key_info""".split()
+# the versions of the languages that include the header
+HEADERS = {version: ["cc", f"-std={version}", "-x", "c"] for version in ("c89", "c99", "c11", "c17")}
+HEADERS.update({version: ["c++", f"-std={version}", "-x", "c++"] for version in ("c++98", "c++11", "c++17")})
 
 
 def make_answers(room):
@@ -126,11 +129,29 @@ def try_c(trials, room, sample, files):
             trials.run(f"{what}, under valgrind", words)
     else:
         trials.left_out("calls under valgrind", "valgrind")
-    if shutil.which("c++"):
-        words = ["c++", "-std=c++11", "-Wall", "-Wextra", "-Werror", "-pedantic", "-fsyntax-only", "-x", "c++", f"{ROOT}/c/include/der.h"]
-        trials.run("the header in C++", words)
-    else:
-        trials.left_out("the header in C++", "c++")
+    try_header(trials, room)
+
+
+def try_header(trials, room):
+    """The header in old and new versions of C and C++; none of them takes it with a struct that is laid out otherwise."""
+    with open(f"{ROOT}/c/include/der.h", encoding="utf-8") as file:
+        header = file.read()
+    for name, words in HEADERS.items():
+        if not shutil.which(words[0]):
+            trials.left_out(f"the header in {name}", words[0])
+            continue
+        trials.tell(f"the header in {name}", refusal_of_header(words, room, header))
+        other = header.replace("    der_place critical;", "    uint32_t critical;")
+        trials.tell(f"another struct in {name}", not refusal_of_header(words, room, other) and "it is taken")
+
+
+def refusal_of_header(words, room, header):
+    """What a compiler says of a header that a file includes; nothing where it takes it."""
+    with open(f"{room}/der.h", "w", encoding="utf-8") as file:
+        file.write(header)
+    command = [*words, "-Wall", "-Wextra", "-Werror", "-pedantic", "-fsyntax-only", f"-I{room}", "-"]
+    ran = subprocess.run(command, input='#include "der.h"\n', text=True, capture_output=True)
+    return ran.returncode and (ran.stderr[-2000:] or f"status {ran.returncode}")
 
 
 def try_fuzzer(trials, room, samples):

@@ -24,6 +24,20 @@
 extern "C" {
 #endif
 
+/* What stops a compiler that lays out a struct otherwise than the library, also before C11 and C++11. */
+#if (defined(__STDC_VERSION__) && __STDC_VERSION__ >= 201112L) || (defined(__cplusplus) && __cplusplus >= 201103L)
+#define DER_ASSERT(condition, words) static_assert(condition, words)
+#else
+#define DER_ASSERT(condition, words) extern char der_assertion[(condition) ? 1 : -1]
+#endif
+
+/* What the calls begin with that are defined in this file: C89 has no inline, and its compilers have __inline. */
+#if defined(__cplusplus) || (defined(__STDC_VERSION__) && __STDC_VERSION__ >= 199901L)
+#define DER_INLINE static inline
+#else
+#define DER_INLINE static __inline
+#endif
+
 /* It changes where a struct, a number or a promise of this file does. What octets are taken is one of the promises. */
 #define DER_ABI_VERSION 1
 
@@ -332,43 +346,43 @@ typedef struct der_attribute_at {
     der_place values; /* a SET OF */
 } der_attribute_at;
 
-static_assert(sizeof(der_certificate_at) == 128, "13 places and 3 numbers of 64 bits");
-static_assert(offsetof(der_certificate_at, version) == 24, "after 3 places");
-static_assert(offsetof(der_certificate_at, not_before) == 104, "after 13 places");
-static_assert(sizeof(der_extension_at) == 36, "4 places and 1 number of 32 bits");
-static_assert(offsetof(der_extension_at, extn_id) == 8, "after 1 place");
-static_assert(offsetof(der_extension_at, is_critical) == 32, "after 4 places");
-static_assert(sizeof(der_certificate_list_at) == 104, "10 places and 3 numbers of 64 bits");
-static_assert(offsetof(der_certificate_list_at, version) == 24, "after 3 places");
-static_assert(offsetof(der_certificate_list_at, this_update_seconds) == 80, "after 10 places");
-static_assert(sizeof(der_revoked_certificate_at) == 40, "4 places and 1 number of 64 bits");
-static_assert(offsetof(der_revoked_certificate_at, user_certificate) == 8, "after 1 place");
-static_assert(offsetof(der_revoked_certificate_at, revocation_date_seconds) == 32, "after 4 places");
-static_assert(sizeof(der_subject_public_key_info_at) == 16, "2 places");
-static_assert(sizeof(der_private_key_info_at) == 48, "5 places and 1 number of 64 bits");
-static_assert(offsetof(der_private_key_info_at, version_number) == 40, "after 5 places");
-static_assert(sizeof(der_certification_request_at) == 56, "7 places");
-static_assert(offsetof(der_certification_request_at, version) == 24, "after 3 places");
-static_assert(sizeof(der_ocsp_response_at) == 40, "4 places and 1 number of 64 bits");
-static_assert(offsetof(der_ocsp_response_at, response_type) == 16, "after 2 places");
-static_assert(offsetof(der_ocsp_response_at, response_status_number) == 32, "after 4 places");
-static_assert(sizeof(der_basic_ocsp_response_at) == 80, "9 places and 1 number of 64 bits");
-static_assert(offsetof(der_basic_ocsp_response_at, version) == 32, "after 4 places");
-static_assert(offsetof(der_basic_ocsp_response_at, produced_at_seconds) == 72, "after 9 places");
-static_assert(sizeof(der_single_response_at) == 80, "6 places and 4 numbers of 64 bits");
-static_assert(offsetof(der_single_response_at, cert_id) == 8, "after 1 place");
-static_assert(offsetof(der_single_response_at, this_update_seconds) == 48, "after 6 places");
-static_assert(sizeof(der_content_info_at) == 16, "2 places");
-static_assert(sizeof(der_signed_data_at) == 72, "8 places and 1 number of 64 bits");
-static_assert(offsetof(der_signed_data_at, e_content_type) == 48, "after 6 places");
-static_assert(offsetof(der_signed_data_at, version_number) == 64, "after 8 places");
-static_assert(sizeof(der_signer_info_at) == 72, "8 places and 1 number of 64 bits");
-static_assert(offsetof(der_signer_info_at, version) == 8, "after 1 place");
-static_assert(offsetof(der_signer_info_at, version_number) == 64, "after 8 places");
-static_assert(sizeof(der_attribute_type_and_value_at) == 24, "3 places");
-static_assert(offsetof(der_attribute_type_and_value_at, type) == 8, "after 1 place");
-static_assert(sizeof(der_attribute_at) == 24, "3 places");
-static_assert(offsetof(der_attribute_at, type) == 8, "after 1 place");
+DER_ASSERT(sizeof(der_certificate_at) == 128, "13 places and 3 numbers of 64 bits");
+DER_ASSERT(offsetof(der_certificate_at, version) == 24, "after 3 places");
+DER_ASSERT(offsetof(der_certificate_at, not_before) == 104, "after 13 places");
+DER_ASSERT(sizeof(der_extension_at) == 36, "4 places and 1 number of 32 bits");
+DER_ASSERT(offsetof(der_extension_at, extn_id) == 8, "after 1 place");
+DER_ASSERT(offsetof(der_extension_at, is_critical) == 32, "after 4 places");
+DER_ASSERT(sizeof(der_certificate_list_at) == 104, "10 places and 3 numbers of 64 bits");
+DER_ASSERT(offsetof(der_certificate_list_at, version) == 24, "after 3 places");
+DER_ASSERT(offsetof(der_certificate_list_at, this_update_seconds) == 80, "after 10 places");
+DER_ASSERT(sizeof(der_revoked_certificate_at) == 40, "4 places and 1 number of 64 bits");
+DER_ASSERT(offsetof(der_revoked_certificate_at, user_certificate) == 8, "after 1 place");
+DER_ASSERT(offsetof(der_revoked_certificate_at, revocation_date_seconds) == 32, "after 4 places");
+DER_ASSERT(sizeof(der_subject_public_key_info_at) == 16, "2 places");
+DER_ASSERT(sizeof(der_private_key_info_at) == 48, "5 places and 1 number of 64 bits");
+DER_ASSERT(offsetof(der_private_key_info_at, version_number) == 40, "after 5 places");
+DER_ASSERT(sizeof(der_certification_request_at) == 56, "7 places");
+DER_ASSERT(offsetof(der_certification_request_at, version) == 24, "after 3 places");
+DER_ASSERT(sizeof(der_ocsp_response_at) == 40, "4 places and 1 number of 64 bits");
+DER_ASSERT(offsetof(der_ocsp_response_at, response_type) == 16, "after 2 places");
+DER_ASSERT(offsetof(der_ocsp_response_at, response_status_number) == 32, "after 4 places");
+DER_ASSERT(sizeof(der_basic_ocsp_response_at) == 80, "9 places and 1 number of 64 bits");
+DER_ASSERT(offsetof(der_basic_ocsp_response_at, version) == 32, "after 4 places");
+DER_ASSERT(offsetof(der_basic_ocsp_response_at, produced_at_seconds) == 72, "after 9 places");
+DER_ASSERT(sizeof(der_single_response_at) == 80, "6 places and 4 numbers of 64 bits");
+DER_ASSERT(offsetof(der_single_response_at, cert_id) == 8, "after 1 place");
+DER_ASSERT(offsetof(der_single_response_at, this_update_seconds) == 48, "after 6 places");
+DER_ASSERT(sizeof(der_content_info_at) == 16, "2 places");
+DER_ASSERT(sizeof(der_signed_data_at) == 72, "8 places and 1 number of 64 bits");
+DER_ASSERT(offsetof(der_signed_data_at, e_content_type) == 48, "after 6 places");
+DER_ASSERT(offsetof(der_signed_data_at, version_number) == 64, "after 8 places");
+DER_ASSERT(sizeof(der_signer_info_at) == 72, "8 places and 1 number of 64 bits");
+DER_ASSERT(offsetof(der_signer_info_at, version) == 8, "after 1 place");
+DER_ASSERT(offsetof(der_signer_info_at, version_number) == 64, "after 8 places");
+DER_ASSERT(sizeof(der_attribute_type_and_value_at) == 24, "3 places");
+DER_ASSERT(offsetof(der_attribute_type_and_value_at, type) == 8, "after 1 place");
+DER_ASSERT(sizeof(der_attribute_at) == 24, "3 places");
+DER_ASSERT(offsetof(der_attribute_at, type) == 8, "after 1 place");
 /* end of structs */
 
 /* DER_ABI_VERSION of the library that was linked. */
@@ -472,7 +486,7 @@ der_place der_signed_octets(const uint8_t *octets, size_t len);
  * is defined before this file is included */
 
 /* Writes a refusal of the call itself, and answers its number. */
-static inline uint32_t der_refuse(uint32_t number, der_fault *fault)
+DER_INLINE uint32_t der_refuse(uint32_t number, der_fault *fault)
 {
     fault->number = number;
     fault->is_placed = 0;
@@ -481,16 +495,16 @@ static inline uint32_t der_refuse(uint32_t number, der_fault *fault)
 }
 
 /* Whether a pointer is null though there are octets. */
-static inline int der_is_null(const uint8_t *octets, size_t len)
+DER_INLINE int der_is_null(const uint8_t *octets, size_t len)
 {
     return octets == NULL && len != 0;
 }
 
 #ifndef DER_UNCHECKED
-#define DER_CHECKED(name)                                                                                              \
-    static inline uint32_t der_checked_##name(const uint8_t *octets, size_t len, der_##name##_at *out, der_fault *fault) \
-    {                                                                                                                  \
-        return der_is_null(octets, len) ? der_refuse(DER_NULL_POINTER, fault) : der_##name(octets, len, out, fault);   \
+#define DER_CHECKED(name)                                                                                             \
+    DER_INLINE uint32_t der_checked_##name(const uint8_t *octets, size_t len, der_##name##_at *out, der_fault *fault) \
+    {                                                                                                                 \
+        return der_is_null(octets, len) ? der_refuse(DER_NULL_POINTER, fault) : der_##name(octets, len, out, fault);  \
     }
 /* written by tools/bindings: checked calls */
 DER_CHECKED(certificate)
@@ -526,18 +540,18 @@ DER_CHECKED(attribute)
 #define der_attribute der_checked_attribute
 /* end of checked calls */
 
-static inline uint32_t der_checked_check_rfc5280(const uint8_t *octets, size_t len, uint32_t *broken, der_fault *fault)
+DER_INLINE uint32_t der_checked_check_rfc5280(const uint8_t *octets, size_t len, uint32_t *broken, der_fault *fault)
 {
     return der_is_null(octets, len) ? der_refuse(DER_NULL_POINTER, fault) : der_check_rfc5280(octets, len, broken, fault);
 }
 
-static inline uint32_t der_checked_check_rfc5280_list(const uint8_t *octets, size_t len, uint32_t *broken, der_fault *fault)
+DER_INLINE uint32_t der_checked_check_rfc5280_list(const uint8_t *octets, size_t len, uint32_t *broken, der_fault *fault)
 {
     return der_is_null(octets, len) ? der_refuse(DER_NULL_POINTER, fault) : der_check_rfc5280_list(octets, len, broken, fault);
 }
 
-static inline uint32_t der_checked_canonical(const uint8_t *name, size_t name_len, const uint8_t *octets, size_t len,
-                                             uint8_t *room, size_t room_len, size_t *written, der_fault *fault)
+DER_INLINE uint32_t der_checked_canonical(const uint8_t *name, size_t name_len, const uint8_t *octets, size_t len,
+                                          uint8_t *room, size_t room_len, size_t *written, der_fault *fault)
 {
     if (der_is_null(name, name_len) || der_is_null(octets, len) || der_is_null(room, room_len))
         return der_refuse(DER_NULL_POINTER, fault);
@@ -549,17 +563,17 @@ static inline uint32_t der_checked_canonical(const uint8_t *name, size_t name_le
 #define der_canonical der_checked_canonical
 
 /* The calls that answer a place answer that of no octets. */
-static inline der_place der_checked_contents(const uint8_t *octets, size_t len, const der_place *place)
+DER_INLINE der_place der_checked_contents(const uint8_t *octets, size_t len, const der_place *place)
 {
     return der_contents(octets, der_is_null(octets, len) ? 0 : len, place);
 }
 
-static inline der_place der_checked_next_encoding(const uint8_t *octets, size_t len, const der_place *last)
+DER_INLINE der_place der_checked_next_encoding(const uint8_t *octets, size_t len, const der_place *last)
 {
     return der_next_encoding(octets, der_is_null(octets, len) ? 0 : len, last);
 }
 
-static inline der_place der_checked_signed_octets(const uint8_t *octets, size_t len)
+DER_INLINE der_place der_checked_signed_octets(const uint8_t *octets, size_t len)
 {
     return der_signed_octets(octets, der_is_null(octets, len) ? 0 : len);
 }
@@ -570,8 +584,8 @@ static inline der_place der_checked_signed_octets(const uint8_t *octets, size_t 
 #endif
 
 /* The same of a name that ends with an octet 0, as "cert". */
-static inline uint32_t der_canonical_named(const char *name, const uint8_t *octets, size_t len, uint8_t *room,
-                                           size_t room_len, size_t *written, der_fault *fault)
+DER_INLINE uint32_t der_canonical_named(const char *name, const uint8_t *octets, size_t len, uint8_t *room,
+                                        size_t room_len, size_t *written, der_fault *fault)
 {
     size_t name_len = 0;
     if (name == NULL)
@@ -591,7 +605,7 @@ static inline uint32_t der_canonical_named(const char *name, const uint8_t *octe
  */
 
 /* The extensions of a certificate or of a list, one behind another; none where the field is absent. */
-static inline der_place der_extensions(const uint8_t *octets, size_t len, const der_place *field)
+DER_INLINE der_place der_extensions(const uint8_t *octets, size_t len, const der_place *field)
 {
     der_place list;
     if (field->length == 0)
@@ -601,26 +615,26 @@ static inline der_place der_extensions(const uint8_t *octets, size_t len, const 
 }
 
 /* The entries of a list, or the extensions of an entry, one behind another; none where the field is absent. */
-static inline der_place der_items(const uint8_t *octets, size_t len, const der_place *field)
+DER_INLINE der_place der_items(const uint8_t *octets, size_t len, const der_place *field)
 {
     return field->length == 0 ? *field : der_contents(octets, len, field);
 }
 
 /* A place, seen from so many octets before where it was counted from. */
-static inline der_place der_behind(uint32_t before, der_place place)
+DER_INLINE der_place der_behind(uint32_t before, der_place place)
 {
     place.offset += before;
     return place;
 }
 
 /* Whether a place is within so many octets. */
-static inline int der_is_within(size_t len, der_place place)
+DER_INLINE int der_is_within(size_t len, der_place place)
 {
     return place.offset <= len && place.length <= len - place.offset;
 }
 
 /* Refuses what is left where it is not within the octets (100), or where there are none though there should be (101). */
-static inline uint32_t der_check_left(const uint8_t *octets, size_t len, der_place left, der_fault *fault)
+DER_INLINE uint32_t der_check_left(const uint8_t *octets, size_t len, der_place left, der_fault *fault)
 {
     if (der_is_null(octets, len))
         return der_refuse(DER_NULL_POINTER, fault);
@@ -628,7 +642,7 @@ static inline uint32_t der_check_left(const uint8_t *octets, size_t len, der_pla
 }
 
 /* Takes what was read from the front of what is left. */
-static inline void der_take(der_place *left, uint32_t length)
+DER_INLINE void der_take(der_place *left, uint32_t length)
 {
     left->offset += length;
     left->length -= length;
@@ -637,8 +651,8 @@ static inline void der_take(der_place *left, uint32_t length)
 /* written by tools/bindings: next calls */
 /* Reads the extension at the front of `left`, and moves `left` past it. The places count from the start of the
  * octets. At first, `left` is the result of der_extensions. Returns 100 where `left` is not within the octets. */
-static inline uint32_t der_next_extension(const uint8_t *octets, size_t len, der_place *left, der_extension_at *out,
-                                          der_fault *fault)
+DER_INLINE uint32_t der_next_extension(const uint8_t *octets, size_t len, der_place *left, der_extension_at *out,
+                                       der_fault *fault)
 {
     uint32_t before = left->offset, answer = der_check_left(octets, len, *left, fault);
     if (answer != 0)
@@ -659,8 +673,8 @@ static inline uint32_t der_next_extension(const uint8_t *octets, size_t len, der
 /* Reads the entry of a list of revoked certificates at the front of `left`, and moves `left` past it. The places
  * count from the start of the octets. At first, `left` is the result of der_items for `revoked_certificates`.
  * Returns 100 where `left` is not within the octets. */
-static inline uint32_t der_next_revoked_certificate(const uint8_t *octets, size_t len, der_place *left,
-                                                    der_revoked_certificate_at *out, der_fault *fault)
+DER_INLINE uint32_t der_next_revoked_certificate(const uint8_t *octets, size_t len, der_place *left,
+                                                 der_revoked_certificate_at *out, der_fault *fault)
 {
     uint32_t before = left->offset, answer = der_check_left(octets, len, *left, fault);
     if (answer != 0)
@@ -681,8 +695,8 @@ static inline uint32_t der_next_revoked_certificate(const uint8_t *octets, size_
 /* Reads the response about one certificate at the front of `left`, and moves `left` past it. The places count from
  * the start of the octets. At first, `left` is the result of der_items for `responses`. Returns 100 where `left` is
  * not within the octets. */
-static inline uint32_t der_next_single_response(const uint8_t *octets, size_t len, der_place *left,
-                                                der_single_response_at *out, der_fault *fault)
+DER_INLINE uint32_t der_next_single_response(const uint8_t *octets, size_t len, der_place *left,
+                                             der_single_response_at *out, der_fault *fault)
 {
     uint32_t before = left->offset, answer = der_check_left(octets, len, *left, fault);
     if (answer != 0)
@@ -704,8 +718,8 @@ static inline uint32_t der_next_single_response(const uint8_t *octets, size_t le
 
 /* Reads the signer at the front of `left`, and moves `left` past it. The places count from the start of the octets.
  * At first, `left` is the result of der_items for `signer_infos`. Returns 100 where `left` is not within the octets. */
-static inline uint32_t der_next_signer_info(const uint8_t *octets, size_t len, der_place *left, der_signer_info_at *out,
-                                            der_fault *fault)
+DER_INLINE uint32_t der_next_signer_info(const uint8_t *octets, size_t len, der_place *left, der_signer_info_at *out,
+                                         der_fault *fault)
 {
     uint32_t before = left->offset, answer = der_check_left(octets, len, *left, fault);
     if (answer != 0)
@@ -730,8 +744,8 @@ static inline uint32_t der_next_signer_info(const uint8_t *octets, size_t len, d
 /* Reads the attribute of a signer, a request or a private key at the front of `left`, and moves `left` past it. The
  * places count from the start of the octets. At first, `left` is the result of der_items for `signed_attrs`,
  * `unsigned_attrs` or `attributes`. Returns 100 where `left` is not within the octets. */
-static inline uint32_t der_next_attribute(const uint8_t *octets, size_t len, der_place *left, der_attribute_at *out,
-                                          der_fault *fault)
+DER_INLINE uint32_t der_next_attribute(const uint8_t *octets, size_t len, der_place *left, der_attribute_at *out,
+                                       der_fault *fault)
 {
     uint32_t before = left->offset, answer = der_check_left(octets, len, *left, fault);
     if (answer != 0)
@@ -763,7 +777,7 @@ typedef struct der_name_left {
  *         if (answer != 0) ...
  *     }
  */
-static inline der_name_left der_name(const uint8_t *octets, size_t len, const der_place *name)
+DER_INLINE der_name_left der_name(const uint8_t *octets, size_t len, const der_place *name)
 {
     der_name_left left;
     left.parts = der_items(octets, len, name);
@@ -773,15 +787,15 @@ static inline der_name_left der_name(const uint8_t *octets, size_t len, const de
 }
 
 /* Whether something is left of a name. */
-static inline int der_has_attribute(const der_name_left *left)
+DER_INLINE int der_has_attribute(const der_name_left *left)
 {
     return left->parts.length != 0 || left->attributes.length != 0;
 }
 
 /* The next attribute of what is left of a name; afterwards those behind it are left. 100 where what is left is not within the
  * octets, or is no name. */
-static inline uint32_t der_next_name_attribute(const uint8_t *octets, size_t len, der_name_left *left,
-                                               der_attribute_type_and_value_at *out, der_fault *fault)
+DER_INLINE uint32_t der_next_name_attribute(const uint8_t *octets, size_t len, der_name_left *left,
+                                            der_attribute_type_and_value_at *out, der_fault *fault)
 {
     uint32_t before, answer = der_check_left(octets, len, left->parts, fault);
     der_name_left next = *left;
@@ -790,7 +804,10 @@ static inline uint32_t der_next_name_attribute(const uint8_t *octets, size_t len
     if (answer != 0)
         return answer;
     if (next.attributes.length == 0) {
-        der_place last = {next.parts.offset, 0}, part = der_next_encoding(octets, len, &last);
+        der_place last, part;
+        last.offset = next.parts.offset;
+        last.length = 0;
+        part = der_next_encoding(octets, len, &last);
         if (part.length == 0 || part.offset != next.parts.offset || part.length > next.parts.length)
             return der_refuse(DER_BAD_PLACE, fault);
         der_take(&next.parts, part.length);
@@ -810,6 +827,8 @@ static inline uint32_t der_next_name_attribute(const uint8_t *octets, size_t len
     return 0;
 }
 
+#undef DER_ASSERT
+#undef DER_INLINE
 #ifdef __cplusplus
 }
 #endif

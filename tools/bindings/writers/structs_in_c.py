@@ -36,13 +36,13 @@ def typedef(struct: Struct) -> list[str]:
 def assertions(struct: Struct) -> list[str]:
     """What a compiler says of the layout: the size, and where each group of fields but the first begins."""
     name = struct_in_c(struct)
-    lines = [f'static_assert(sizeof({name}) == {struct.size}, "{counted(struct.fields)}");']
+    lines = [f'DER_ASSERT(sizeof({name}) == {struct.size}, "{counted(struct.fields)}");']
     before: list[Field] = []
     for group in struct.groups:
         if before:
             offset = sum(SIZES[field.type] for field in before)
             words = f'offsetof({name}, {group.fields[0].name}) == {offset}, "after {counted(before)}"'
-            lines.append(f"static_assert({words});")
+            lines.append(f"DER_ASSERT({words});")
         before += group.fields
     return lines
 
@@ -101,7 +101,7 @@ def next_call(struct: Struct) -> list[str]:
     moved = [f"    out->{field.name} = der_behind(before, out->{field.name});" for field in struct.places]
     return [
         *comment_in_c(text),
-        *call_in_c(f"static inline uint32_t {struct.next.name}(", parameters, ")"),
+        *call_in_c(f"DER_INLINE uint32_t {struct.next.name}(", parameters, ")"),
         "{",
         "    uint32_t before = left->offset, answer = der_check_left(octets, len, *left, fault);",
         "    if (answer != 0)",
