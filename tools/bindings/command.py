@@ -45,7 +45,8 @@ def run(root: Path, is_check: bool) -> int:
     for difference in sorted(wrong):
         print(difference, file=sys.stderr)
     count = sum(len(of_file) for of_file in written.values())
-    print(f"{len(found_rules)} rules, {len(found_structs)} structs: {count} written parts of {len(written)} files, {len(wrong)} differences")
+    tables = f"{len(found_rules)} rules, {len(found_structs)} structs"
+    print(f"{tables}: {count} written parts of {len(written)} files, {len(wrong)} differences")
     return 1 if wrong else 0
 
 

@@ -10,7 +10,10 @@ from .tree import TreeTest
 
 LANGUAGES = {HEADER, RUST, GO, PYTHON}
 SYNONYM = "list | 3 | NextUpdateIsThere | 5.1.2.5 |"
-LAST = "list | 13 | CertificateIssuerIsCritical | 5.3.3 | certificateIssuer of an entry is critical | an entry with this extension, not critical\n"
+LAST = (
+    "list | 13 | CertificateIssuerIsCritical | 5.3.3 | certificateIssuer of an entry is critical "
+    "| an entry with this extension, not critical\n"
+)
 
 
 class ChangedRules(TreeTest):
@@ -112,7 +115,8 @@ class ChangedStructs(TreeTest):
 
     def test_a_place_more(self) -> None:
         self.change(STRUCTS, "        eContent optional", "        more place what follows\n        eContent optional")
-        expected = {HEADER, SYS, PLACES, PYTHON, "python/src/derproved/message.c", "docs/C.md", "crates/der_places/src/cms/encapsulated_content_info.rt"}
+        content = "crates/der_places/src/cms/encapsulated_content_info.rt"
+        expected = {HEADER, SYS, PLACES, PYTHON, "python/src/derproved/message.c", "docs/C.md", content}
         self.assertEqual(self.files_told(), expected)
 
     def test_a_struct_less(self) -> None:

@@ -79,7 +79,8 @@ COMPARED = [
     ("crates/der_c/src/extension.rt", "    pub is_critical: u32,", "    pub is_critical: u64,", 0),
     ("crates/der_c/src/keys.rt", "    out: &mut SubjectPublicKeyInfoPlaces,", "    out: &mut PrivateKeyInfoAt,", None),
     ("crates/der_c/src/signer_info.rt", "pub extern \"C\" fn der_signer_info<'a>(", "pub extern \"C\" fn der_signer<'a>(", None),
-    ("crates/der_c/src/attribute.rt", "#[repr(C)]\n#[derive(Clone, Copy, Debug, PartialEq, Eq)]\npub struct AttributeAt", "pub struct AttributeAt", None),
+    ("crates/der_c/src/attribute.rt", "#[repr(C)]\n#[derive(Clone, Copy, Debug, PartialEq, Eq)]\npub struct AttributeAt",
+     "pub struct AttributeAt", None),
     ("crates/der_places/src/cms/signer_info.rt", "    pub sid: Place,", "    pub signer: Place,", 0),
     ("docs/C.md", "which of 14 rules", "which of 15 rules", 0),
 ]

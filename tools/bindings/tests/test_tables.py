@@ -88,8 +88,12 @@ class Structs(Refused):
 
     def test_one_that_stands_at_the_front(self) -> None:
         whole = "    whole: Place\n        whole place the whole\n"
-        for next_, expected in [("written; the items", ("der_next_key", True, "the items")), ("by hand der_next_one", ("der_next_one", False, ""))]:
-            (struct,) = structs_of("table.txt", f"{HEAD}{FILE}    reads: front\n    next: {next_}\n{whole}{OUT.replace('out', 'fields')}")
+        for next_, expected in [
+            ("written; the items", ("der_next_key", True, "the items")),
+            ("by hand der_next_one", ("der_next_one", False, "")),
+        ]:
+            text = f"{HEAD}{FILE}    reads: front\n    next: {next_}\n{whole}{OUT.replace('out', 'fields')}"
+            (struct,) = structs_of("table.txt", text)
             assert struct.next
             self.assertTrue(struct.is_front)
             self.assertEqual((struct.next.name, struct.next.is_written, struct.next.left), expected)
@@ -112,10 +116,11 @@ class Structs(Refused):
     def test_fields_that_are_refused(self) -> None:
         of_a_field = "5 a field has a name in ASN.1, 'field', 'optional' or 'place', and a phrase"
         of_a_number = "7 a number has a name in C, a type (u32, u64 or i64) and a phrase"
+        of_a_member = "4 a member has a type of der_c or der_places, and 'numbers' has none"
         head = HEAD + READS + RESULTS
         for text, expected in [
-            (HEAD + READS + "    out:\n        keyID field a key\n", "4 a member has a type of der_c or der_places, and 'numbers' has none"),
-            (HEAD + READS + "    numbers: KeyPlaces\n        a u64 one\n", "4 a member has a type of der_c or der_places, and 'numbers' has none"),
+            (HEAD + READS + "    out:\n        keyID field a key\n", of_a_member),
+            (HEAD + READS + "    numbers: KeyPlaces\n        a u64 one\n", of_a_member),
             (HEAD + READS + "    out: KeyPlaces\n", "4 out has no fields"),
             (HEAD + READS + OUT.replace(" field", " octets"), of_a_field),
             (HEAD + READS + OUT.replace("keyID", "key_id"), of_a_field),
