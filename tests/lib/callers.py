@@ -31,6 +31,7 @@ CALLERS = {
     "der_numbers": [(f"{EXAMPLES}/reading.rt", "")],
     "der_opaque": [(f"{EXAMPLES}/anys.rt", "")],
     "der_places": [("crates/der_c/src/certificate.rt", "certificate_at")],
+    "der_recursive": [("crates/layer_tests/src/tree.rt", "")],
     "der_simple": [(TESTS, "digits shown_digits encoded_arcs")],
     "der_text": [(f"{EXAMPLES}/texts.rt", "")],
     "der_time": [(f"{EXAMPLES}/times.rt", "")],

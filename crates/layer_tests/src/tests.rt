@@ -3,6 +3,7 @@
 mod elem;
 mod nest;
 mod opaque;
+mod recursive;
 mod tlv;
 mod types;
 
