@@ -19,11 +19,11 @@ use std::alloc::Global;
 /// is a number of levels that the stack has room for, as 64.
 ///
 /// # Errors
-/// The first fault in reading order: a value, then what it holds, then the next value. The position is
-/// behind the outermost value that has the fault, if it is known.
+/// The first fault in reading order: a value, then what it holds, then the next value. Its position is
+/// in these octets: of a fault in what a value holds it is behind that value.
 /// `ErrorKind::Overflow` (9) for more than 4294967295 octets; `ErrorKind::Overlength` (10) for octets
-/// below the depth, which are not read; the faults of a value's own octets, whose positions count from
-/// the beginning of the component.
+/// below the depth, which are not read; the faults of a value, of which the numbers in
+/// `ErrorKind::Incomplete` (2) count from the beginning of its component.
 #[cycle(depth)]
 pub fn check_depth<T: Recursive>(alloc: Global, octets: &[u8], depth: u32) -> Result<(), Error>
     ensures { ChecksDepth T.Form T.held depth octets.now result }

@@ -43,7 +43,7 @@ impl<'a> Filter<'a> {
     ghost use Rattle.layer_tests.specs.Filter.{held_of};
 
     /// The octets of `and` or of `not`, at 0.
-    pub fn held(self, index: usize) -> Option<&'a [u8]>
+    fn held(self, index: usize) -> Option<&'a [u8]>
         ensures { LendsAt (held_of self.entry) index result }
     {
         if index > 0 {

@@ -29,7 +29,7 @@ impl<'a> Tree<'a> {
     ghost use Rattle.layer_tests.specs.Tree.{held_of};
 
     /// The octets of `left` at 0, and of `right` at 1.
-    pub fn held(self, index: usize) -> Option<&'a [u8]>
+    fn held(self, index: usize) -> Option<&'a [u8]>
         ensures { LendsAt (held_of self.entry) index result }
     {
         match index {
