@@ -8,16 +8,16 @@ ghost use Rattle.layer_tests.specs.Filter.{tree_of};
 ghost use Rattle.layer_tests.specs.declared.filter.Filter.TheVariants as of;
 
 use der_elem::{Choice, Decode, Form};
-use der_fields::{Implicit, OneOf};
-use der_nest::SequenceRef;
-use der_opaque::OctetStringRef;
+use der_fields::{Explicit, Implicit, OneOf};
+use der_nest::{Kept, SequenceRef};
+use der_opaque::{AnyRef, OctetStringRef};
 use der_recursive::Recursive;
 use der_tlv::{Error, SliceReader, Source, Tag};
 use std::alloc::Global;
 
 /// The alternatives, as a tree.
 type Tree<'a> = OneOf<
-    OneOf<Implicit<SequenceRef<'a>, 0>, Implicit<SequenceRef<'a>, 2>>,
+    OneOf<Implicit<SequenceRef<'a>, 0>, Kept<'a, Explicit<AnyRef<'a>, 2>>>,
     Implicit<OctetStringRef<'a>, 7>,
 >;
 
@@ -28,13 +28,14 @@ type Tree<'a> = OneOf<
 ///   present [7] OCTET STRING }
 /// ```
 ///
-/// The components that lead back are kept, and not read.
+/// The components that lead back are kept, and not read. That one value stands in `not`, its type says:
+/// the tag [2] is explicit, since `Filter` is a CHOICE.
 #[derive(Clone, Copy)]
 pub enum Filter<'a> {
     /// `and`, `[0] SET OF Filter`.
     And(Implicit<SequenceRef<'a>, 0>),
     /// `not`, `[2] Filter`.
-    Not(Implicit<SequenceRef<'a>, 2>),
+    Not(Kept<'a, Explicit<AnyRef<'a>, 2>>),
     /// `present`, `[7] OCTET STRING`.
     Present(Implicit<OctetStringRef<'a>, 7>),
 }
@@ -51,7 +52,7 @@ impl<'a> Filter<'a> {
         }
         match self {
             Filter::And(filters) => Some(filters.value.as_bytes()),
-            Filter::Not(filter) => Some(filter.value.as_bytes()),
+            Filter::Not(filter) => Some(filter.as_bytes()),
             Filter::Present(_) => None,
         }
     }

@@ -57,8 +57,17 @@ fn faults_stand_within_values(rt: HostRuntime) -> Result<(), Fail> {
     let alloc = rt.alloc();
     let other_tag = [0xa2, 0x03, 0x88, 0x01, 0x61];
     refused::<Filter>(&rt, alloc, &other_tag, [10, 10, 4, 4]);
-    let cut_off = [0xa2, 0x02, 0x87, 0x01];
+    let cut_off = [0xa0, 0x02, 0x87, 0x01];
     refused::<Filter>(&rt, alloc, &cut_off, [10, 10, 2, 2]);
+    Ok(())
+}
+
+#[test]
+fn one_value_stands_in_not(rt: HostRuntime) -> Result<(), Fail> {
+    let alloc = rt.alloc();
+    let two = [0xa2, 0x06, 0x87, 0x01, 0x61, 0x87, 0x01, 0x61];
+    refused::<Filter>(&rt, alloc, &two, [10, 3, 3, 3]);
+    refused::<Filter>(&rt, alloc, &[0xa2, 0x00], [10, 2, 2, 2]);
     Ok(())
 }
 
