@@ -1,8 +1,10 @@
-//! Laws of NumericString, VisibleString and RELATIVE-OID.
+//! Laws of NumericString, VisibleString, RELATIVE-OID, and GeneralizedTime with a fraction of a second.
 
-ghost use Rattle.std.specs.Prelude.{◌≡◌, ◌∷◌, []};
+ghost use Rattle.std.specs.Prelude.{◌≡◌, ◌↔◌, ◌∷◌, [], IsTrue};
 ghost use Rattle.der_tlv.specs.declared.tag.Tag.TheVariants as tags;
+ghost use Rattle.der_simple.specs.FractionalTimes.{IsFractionalTime, is_fractional_time};
 
+use crate::fractional_time::is_fractional_time;
 use crate::{NumericStringRef, RelativeOidRef, VisibleStringRef};
 use der_elem::FixedTag;
 use der_tlv::Tag;
@@ -16,4 +18,12 @@ pub fn universal_tags() -> [Tag; 3]
         VisibleStringRef::TAG,
         RelativeOidRef::TAG,
     ]
+}
+
+/// The octets that are read as a time with a fraction are those of X.690 11.7: a second, a fraction
+/// after a full stop or none, and Z.
+pub fn octets_of_times(octets: &[u8])
+    ensures { IsTrue (is_fractional_time octets.now) ↔ IsFractionalTime octets.now }
+{
+    let _found = is_fractional_time(octets);
 }

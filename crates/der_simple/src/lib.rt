@@ -1,5 +1,5 @@
 //! Simple types of X.680 that the crate `der` has no type of: NumericString and VisibleString
-//! (X.680 41), and RELATIVE-OID (X.680 32).
+//! (X.680 41), RELATIVE-OID (X.680 32), and GeneralizedTime with a fraction of a second (X.680 46).
 //!
 //! ```rust
 //! match NumericStringRef::new("12 34".as_bytes()) {
@@ -13,11 +13,13 @@
 #![tactic(auto)]
 
 mod characters;
+mod fractional_time;
 pub mod laws;
 mod relative_oid;
 mod string_ref;
 mod tags;
 
+pub use fractional_time::FractionalTimeRef;
 pub use relative_oid::RelativeOidRef;
 pub use string_ref::SimpleStringRef;
 pub use tags::{RelativeOidTag, SimpleStringTag};
