@@ -1,10 +1,12 @@
 -- RELATIVE-OID: its arcs, each in base 128 (X.690 8.20).
 use Rattle.std.specs.Prelude.{◌≡◌, ◌⊎◌, ℕ, ◌<◌, ◌≤◌, ◌^◌, ◌==◌, ◌&&◌, not, nat_le, nat_lt, Bool, true, false, if◌then◌else◌, List, [], ◌∷◌, length, Result, Ok, Err}
+use Rattle.std.specs.List.{flat_map}
 use Rattle.std.proofs.Common.{ap, ◌∙◌, refl}
 use Rattle.der_tlv.specs.declared.error.ErrorKind.TheVariants as kinds
 use Rattle.der_tlv.specs.declared.error.Error.{Error}
 use Rattle.der_tlv.specs.declared.tag.Tag.TheVariants.{RelativeOid}
 use Rattle.der_tlv.specs.declared.encoding_rules.EncodingRules.{EncodingRules}
+use Rattle.der_tlv.specs.Identifier.{number_octets}
 use Rattle.der_tlv.specs.OctetFaults.{IsOfOctets, of_octets_either}
 use Rattle.der_elem.specs.Parsing.{ContentsParse}
 
@@ -19,6 +21,12 @@ are_arcs_after false (octet ∷ octets) = not (octet == 128) && are_arcs_after (
 -- whether octets are one arc or more (X.680 32.3)
 abbrev pub are_arcs : List ℕ → Bool
 are_arcs octets = nat_lt 0 (length octets) && are_arcs_after false octets
+
+-- octets that are those of the numbers of one arc or more, each in base 128 with the fewest octets (X.690 8.20.2)
+pub record IsArcs (octets : List ℕ) : Type 0 where
+  pub first : ℕ
+  pub others : List ℕ
+  pub whole : octets ≡ flat_map number_octets (first ∷ others)
 
 -- octets that are arcs are read as they are, and else refused (13)
 abbrev pub parse_arcs : ContentsParse

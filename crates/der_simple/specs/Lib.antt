@@ -2,6 +2,7 @@ pub mod Characters
 pub mod CharacterLaws
 pub mod SimpleStringRef
 pub mod Arcs
+pub mod ArcLaws
 pub mod RelativeOidRef
 pub mod FractionalTimes
 pub mod FractionalTimeLaws

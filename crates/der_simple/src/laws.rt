@@ -2,6 +2,7 @@
 
 ghost use Rattle.std.specs.Prelude.{◌≡◌, ◌↔◌, ◌∷◌, [], IsTrue};
 ghost use Rattle.der_tlv.specs.declared.tag.Tag.TheVariants as tags;
+ghost use Rattle.der_simple.specs.Arcs.{IsArcs, are_arcs};
 ghost use Rattle.der_simple.specs.FractionalTimes.{IsFractionalTime, is_fractional_time};
 
 use crate::fractional_time::is_fractional_time;
@@ -19,6 +20,12 @@ pub fn universal_tags() -> [Tag; 3]
         RelativeOidRef::TAG,
     ]
 }
+
+/// The octets that are read as a RELATIVE-OID are those of one number or more, one after another, each
+/// in base 128 with the fewest octets (X.690 8.20.2).
+pub fn octets_of_arcs(octets: &[u8])
+    ensures { IsTrue (are_arcs octets.now) ↔ IsArcs octets.now }
+{}
 
 /// The octets that are read as a time with a fraction are those of X.690 11.7: a second, a fraction
 /// after a full stop or none, and Z.
