@@ -40,6 +40,7 @@ class Whole(Enum):
     OBJECT_IDENTIFIER = "OBJECT IDENTIFIER"
     UTC_TIME = "UTCTime"
     GENERALIZED_TIME = "GeneralizedTime"
+    FRACTIONAL_TIME = "GeneralizedTime with a fraction of a second"
     RELATIVE_OID = "RELATIVE-OID"
     UTF8_STRING = "UTF8String"
     NUMERIC_STRING = "NumericString"

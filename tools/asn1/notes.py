@@ -15,6 +15,7 @@ KNOWN: dict[str, tuple[str | None, str]] = {
     "unsigned": (None, "an INTEGER of any length that is not negative"),
     **{width: (None, f"an INTEGER as {width}") for width in WIDTHS},
     "max": (r"[1-9][0-9]*", "how many contents octets an OBJECT IDENTIFIER may have"),
+    "fraction": (None, "a GeneralizedTime may have a fraction of a second"),
     "any_order": (None, "the items of a SET OF stand in the order in which they came"),
     "unchecked": (None, "the values that a constraint excludes are read"),
     "unread": (None, "it is not read, and its octets are kept"),

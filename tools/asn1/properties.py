@@ -45,6 +45,7 @@ UNIVERSAL_TAGS = {
     Whole.IA5_STRING: 22,
     Whole.UTC_TIME: 23,
     Whole.GENERALIZED_TIME: 24,
+    Whole.FRACTIONAL_TIME: 24,
     Whole.VISIBLE_STRING: 26,
     Whole.GENERAL_STRING: 27,
     Whole.BMP_STRING: 30,

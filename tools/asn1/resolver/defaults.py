@@ -59,7 +59,8 @@ CHARACTERS_OF = {
 ASCII = frozenset([Whole.IA5_STRING, Whole.TELETEX_STRING, Whole.VIDEOTEX_STRING, Whole.GENERAL_STRING])
 STRINGS = ASCII | CHARACTERS_OF.keys() | {Whole.UTF8_STRING}
 # Whose values nothing makes but reading.
-READ_ALONE = frozenset([Whole.ANY, Whole.UNREAD_SEQUENCE, Whole.UTC_TIME, Whole.GENERALIZED_TIME])
+TIMES = [Whole.UTC_TIME, Whole.GENERALIZED_TIME, Whole.FRACTIONAL_TIME]
+READ_ALONE = frozenset([Whole.ANY, Whole.UNREAD_SEQUENCE, *TIMES])
 
 
 def default_of(context: Context, value: Value, type_: Resolved) -> DefaultValue:

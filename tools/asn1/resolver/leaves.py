@@ -53,7 +53,14 @@ def simple(context: Context, type_: SimpleType, constraints: tuple[Placed, ...])
     is_owned = type_.simple in ALWAYS_OWNED
     if type_.simple not in NEVER_OWNED | ALWAYS_OWNED:
         is_owned = context.notes.has("owned")
-    return checked(context, Leaf(WHOLES[type_.simple], is_owned, None, octets), constraints, {})
+    return checked(context, Leaf(whole_of(context, type_.simple), is_owned, None, octets), constraints, {})
+
+
+def whole_of(context: Context, kind: Simple) -> Whole:
+    """The type of the library; of a GeneralizedTime an annotation says which."""
+    if kind is Simple.GENERALIZED_TIME and context.notes.has("fraction"):
+        return Whole.FRACTIONAL_TIME
+    return WHOLES[kind]
 
 
 def checked(context: Context, leaf: Leaf, constraints: tuple[Placed, ...], named: dict[str, int]) -> Leaf:

@@ -20,6 +20,7 @@ WHOLES: dict[Whole, tuple[str, str]] = {
     Whole.OBJECT_IDENTIFIER: ("ObjectIdentifierRef", "ObjectIdentifier"),
     Whole.UTC_TIME: ("UtcTime", "UtcTime"),
     Whole.GENERALIZED_TIME: ("GeneralizedTime", "GeneralizedTime"),
+    Whole.FRACTIONAL_TIME: ("FractionalTimeRef", "FractionalTimeRef"),
     Whole.UTF8_STRING: ("Utf8StringRef", "String"),
     Whole.PRINTABLE_STRING: ("PrintableStringRef", "PrintableString"),
     Whole.TELETEX_STRING: ("TeletexStringRef", "TeletexString"),

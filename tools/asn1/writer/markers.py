@@ -30,6 +30,7 @@ MARKERS = {
     Whole.OBJECT_IDENTIFIER: "ObjectIdentifierTag",
     Whole.UTC_TIME: "UtcTimeTag",
     Whole.GENERALIZED_TIME: "GeneralizedTimeTag",
+    Whole.FRACTIONAL_TIME: "GeneralizedTimeTag",
     Whole.UTF8_STRING: "Utf8StringTag",
     Whole.RELATIVE_OID: "RelativeOidTag",
     Whole.GENERAL_STRING: "GeneralStringTag",
