@@ -41,6 +41,7 @@ ROWS = [
     (Whole.OBJECT_IDENTIFIER, True, "OBJECT IDENTIFIER", "06022a03"),
     (Whole.UTC_TIME, False, "UTCTime", "170d3730303130313030303030305a"),
     (Whole.GENERALIZED_TIME, False, "GeneralizedTime", "180f31393730303130313030303030305a"),
+    (Whole.FRACTIONAL_TIME, False, "GeneralizedTime -- @fraction", "181131393730303130313030303030302e355a"),
     (Whole.UTF8_STRING, False, "UTF8String", "0c02c3a9"),
     (Whole.UTF8_STRING, True, "UTF8String", "0c02c3a9"),
     (Whole.PRINTABLE_STRING, False, "PrintableString", "130161"),

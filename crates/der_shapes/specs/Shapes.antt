@@ -23,6 +23,7 @@ pub mod Notes
 pub mod Numbers
 pub mod Ordered
 pub mod Pair
+pub mod Session
 pub mod Status
 pub mod Subtree
 pub mod Titled

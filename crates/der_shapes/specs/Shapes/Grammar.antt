@@ -23,6 +23,7 @@ use Rattle.der_opaque.specs.Opaque.{parse_octets}
 use Rattle.der_shapes.specs.Shapes.Color.{all_of_color, number_of_color}
 use Rattle.der_simple.specs.Arcs.{parse_arcs}
 use Rattle.der_simple.specs.Characters.{parse_simple_string}
+use Rattle.der_simple.specs.FractionalTimes.{parse_fractional_time}
 use Rattle.der_time.specs.TimeReading.{parse_generalized}
 use Rattle.der_tlv.specs.HeaderOctets.{tlv}
 use Rattle.der_tlv.specs.TagParts.{is_constructed}
@@ -36,6 +37,9 @@ BIT_STRING = one tags.BitString parse_bit_string
 
 abbrev pub BOOLEAN : Grammar
 BOOLEAN = one tags.Boolean parse_boolean
+
+abbrev pub FRACTIONAL_TIME : Grammar
+FRACTIONAL_TIME = one tags.GeneralizedTime parse_fractional_time
 
 abbrev pub GENERALIZED_TIME : Grammar
 GENERALIZED_TIME = one tags.GeneralizedTime parse_generalized
@@ -416,3 +420,18 @@ link =
 abbrev pub chain : Grammar
 chain =
     SEQUENCE_OF link
+
+-- Session ::= SEQUENCE {
+--     begin   GeneralizedTime,
+--     end     [0] GeneralizedTime OPTIONAL,
+--     day     [1] GeneralizedTime OPTIONAL,
+--     pauses  SEQUENCE OF GeneralizedTime
+-- }
+abbrev pub session : Grammar
+session =
+    SEQUENCE
+    (field FRACTIONAL_TIME
+    (OPTIONAL (IMPLICIT context 0 FRACTIONAL_TIME)
+    (OPTIONAL (IMPLICIT context 1 GENERALIZED_TIME)
+    (field (SEQUENCE_OF FRACTIONAL_TIME)
+    end))))

@@ -27,6 +27,7 @@ pub use crate::shapes::nothing::{grammar_of_nothing, octets_of_nothing};
 pub use crate::shapes::numbers::grammar_of_numbers;
 pub use crate::shapes::ordered::grammar_of_ordered;
 pub use crate::shapes::pair::{grammar_of_pair, octets_of_pair};
+pub use crate::shapes::session::{grammar_of_session, octets_of_session};
 pub use crate::shapes::status::grammar_of_status;
 pub use crate::shapes::subtree::{grammar_of_subtree, octets_of_subtree};
 pub use crate::shapes::titled::{grammar_of_titled, octets_of_titled};

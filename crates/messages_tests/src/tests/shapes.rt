@@ -12,6 +12,7 @@ mod reading;
 mod recursion;
 mod refusing;
 mod simple;
+mod times;
 
 use crate::tests::numbered;
 use der_tlv::Error;
