@@ -28,6 +28,7 @@ use Rattle.der_asn1_types.specs.TaggedValues.{parse_explicit}
 use Rattle.der_asn1_types.specs.FieldLists.{parse_field, parse_end}
 use Rattle.der_simple.specs.Arcs.{parse_arcs}
 use Rattle.der_simple.specs.Characters.{parse_simple_string}
+use Rattle.der_simple.specs.FractionalTimes.{parse_fractional_time}
 use Rattle.der_lines.specs.Rows.{Row, Taking, never, at_last, between, parsed, tagged}
 use Rattle.der_lines.specs.Tables.{Table, or_else}
 
@@ -159,12 +160,13 @@ borrowed_set_types name =
     else if bytes_eq name (codes "setref-setvec-u16") then Some (tagged between Set (parse_borrowed (parse_tagged Set (parse_set parse_u16))))
     else None
 
--- the strings NumericString and VisibleString, and RELATIVE-OID
+-- the strings NumericString and VisibleString, RELATIVE-OID, and GeneralizedTime with a fraction of a second
 unfoldable pub simple_types : Table
 simple_types name =
     if bytes_eq name (codes "numericref") then Some (tagged never NumericString (parse_simple_string 18))
     else if bytes_eq name (codes "visibleref") then Some (tagged never VisibleString (parse_simple_string 26))
     else if bytes_eq name (codes "relativeoidref") then Some (tagged never RelativeOid parse_arcs)
+    else if bytes_eq name (codes "fractionaltimeref") then Some (tagged never GeneralizedTime parse_fractional_time)
     else None
 
 -- dates and times

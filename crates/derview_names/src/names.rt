@@ -17,7 +17,7 @@ use der_asn1_types::asn1::{
 use der_asn1_types::{DateTime, Decode, DerOrd, Encode, Error, SliceReader, Tagged};
 use der_lines::{KeptWriter, Names, choose, is_name, put_canonical, put_canonical_set};
 use der_pkix::AlgorithmIdentifier;
-use der_simple::{NumericStringRef, RelativeOidRef, VisibleStringRef};
+use der_simple::{FractionalTimeRef, NumericStringRef, RelativeOidRef, VisibleStringRef};
 use std::alloc::Global;
 
 /// The names of the types of `der_asn1_types` and `der_simple`, and of an AlgorithmIdentifier.
@@ -338,6 +338,7 @@ fn put_simple(
         "numericref" => NumericStringRef,
         "visibleref" => VisibleStringRef,
         "relativeoidref" => RelativeOidRef,
+        "fractionaltimeref" => FractionalTimeRef,
     }
 }
 
