@@ -101,7 +101,8 @@ fn components_that_lead_back_are_read(rt: HostRuntime) -> Result<(), Fail> {
     let alloc = rt.alloc();
     let octets = hex::decode(alloc, NODE)?;
     let node = numbered(Node::from_der(alloc, octets.as_slice()))?;
-    let (Some(left), Some(right), Some(children)) = (node.left(), node.right(), node.children()) else {
+    let (Some(left), Some(right), Some(children)) = (node.left(), node.right(), node.children())
+    else {
         return Err("a component is missing".into());
     };
     same(&rt, value_of(alloc, *left)?, 6);
