@@ -6,7 +6,7 @@ import difflib
 import re
 
 WIDTHS = tuple(f"{sign}{width}" for sign in "ui" for width in (8, 16, 32, 64, 128))
-NAMES = ("owned", "signed", "unsigned", *WIDTHS, "max", "any_order", "unchecked", "unread", "skip", "name", "type", "omit", "rust")
+NAMES = ("owned", "signed", "unsigned", *WIDTHS, "max", "any_order", "fraction", "unchecked", "unread", "skip", "name", "type", "omit", "rust")
 # Those that name an assignment, or say that it is not written.
 NAMED_BY = ("name", "rust", "omit")
 ANNOTATION = re.compile(r"@([A-Za-z][A-Za-z0-9_-]*)(?:\(([^()]*)\))?")
