@@ -75,7 +75,7 @@ class Protocol:
     name: str
     module: str
     modules: list = field(default_factory=list)
-    is_unread: bool = False  # some component is not read here
+    is_unread: bool = False  # a text has the annotation
     types: dict = field(default_factory=dict)
     values: int = 0
     mutants: int = 0
@@ -134,7 +134,8 @@ def protocols_of(options, folder):
             names = put_texts(lot, folder, name, module, changes)
             if names is not None:
                 taken_here(folder, names)
-                yield Protocol(name, module, names, any("@unread" in new for _, new, _ in changes))
+                texts = [(folder / f"{it}.asn1").read_text(encoding="utf-8") for it in names]
+                yield Protocol(name, module, names, any("@unread" in text for text in texts))
         except AsnError as error:
             left_out(name, error)
 
@@ -239,7 +240,7 @@ def explained(protocol, definition, octets, here, there):
 
 def why_taken(protocol, definition, octets, there):
     """Why octets that break no clause are taken, which the peer refuses or writes otherwise."""
-    if peer_clauses.has_no_arcs(octets):
+    if peer_clauses.has_no_arcs(Use(definition), octets):
         return "X.690 8.19.2: octets of an identifier that are no arcs, which are kept"
     if not peer_clauses.is_well_formed(octets):
         return "X.690 8.1: octets within an ANY, which are kept"

@@ -17,7 +17,7 @@ from asn1.parser import parse_modules
 
 MODULE = """Test DEFINITIONS IMPLICIT TAGS ::= BEGIN
 All ::= SEQUENCE { a BOOLEAN DEFAULT FALSE, n INTEGER (-5..300) OPTIONAL, s [0] UTF8String (SIZE (1..2)) OPTIONAL, i OBJECT IDENTIFIER OPTIONAL,
-    l [1] SET OF INTEGER OPTIONAL, c [2] Either OPTIONAL, t GeneralizedTime OPTIONAL, b BIT STRING { one(0) } OPTIONAL, any [3] ANY OPTIONAL }
+    l [1] SET OF INTEGER OPTIONAL, c [2] Either OPTIONAL, t GeneralizedTime OPTIONAL, b BIT STRING { one(0) } OPTIONAL, any [3] ANY OPTIONAL, j [4] OBJECT IDENTIFIER OPTIONAL }
 Either ::= CHOICE { x [0] NULL, e [1] ENUMERATED { zero, one } }
 Open ::= SEQUENCE { a INTEGER (0..5, ...) }
 END
@@ -85,8 +85,10 @@ class Clauses(unittest.TestCase):
         self.assertEqual([peer_clauses.has_unread(found[name], set()) for name in ("All", "Either", "Open")], [True, False, False])
 
     def test_arcs_that_do_not_end_or_begin_with_80_are_none(self):
-        for digits, is_so in (("30040602802a", True), ("300406022a80", True), ("300406022a03", False), ("a00430020500", False)):
-            self.assertEqual(peer_clauses.has_no_arcs(bytes.fromhex(digits)), is_so)
+        all_of = Use(types()["All"])
+        rows = [("30040602802a", True), ("300406022a80", True), ("300406022a03", False), ("3004a3020500", False)]
+        for digits, is_so in [*rows, ("3006a30406022a80", True), ("30048402802a", True), ("300484022a03", False)]:
+            self.assertEqual(peer_clauses.has_no_arcs(all_of, bytes.fromhex(digits)), is_so, digits)
 
 
 class Mutants(unittest.TestCase):

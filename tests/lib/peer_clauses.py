@@ -20,7 +20,6 @@ CHARACTERS = {
 NUMBERS = {Whole.MACHINE_INTEGER, Whole.INTEGER, Whole.NATURAL}
 END = "X.690 8.1.1: an encoding ends too soon"
 LONGEST_IDENTIFIER = 39
-DEEPEST = 200
 
 
 class Broken(Exception):
@@ -83,13 +82,14 @@ def nodes_of(octets):
     return found
 
 
-def broken(type_, octets):
-    """The first clause that the octets break as an encoding of a type, or None."""
+def broken(type_, octets, kept=None):
+    """The first clause that the octets break as an encoding of a type, or None. The contents octets of each OBJECT IDENTIFIER are put
+    into the list."""
     try:
         node = node_at(octets, 0)
         if len(node.whole) != len(octets):
             return "X.690 8.1.1: octets after the encoding"
-        look(type_, node)
+        look(type_, node, [] if kept is None else kept)
     except Broken as found:
         return str(found)
     return None
@@ -100,37 +100,35 @@ def begins(type_, node):
     return tags is None or node.tag in [(tag.tag_class, tag.number) for tag in tags]
 
 
-def look(type_, node, depth=0):
+def look(type_, node, kept):
     """Looks at an element as a type, its tag too."""
     if not begins(type_, node):
         raise Broken("X.690 8.1.2: another tag")
-    look_within(type_, node, depth)
+    look_within(type_, node, kept)
 
 
-def look_within(type_, node, depth):
+def look_within(type_, node, kept):
     """Looks at the contents of an element."""
-    if depth > DEEPEST:
-        raise Broken("depth")
     if isinstance(type_, Tagged):
-        look_behind(type_, node, depth)
+        look_behind(type_, node, kept)
     elif isinstance(type_, Listed):
-        look_at_list(type_, node, depth)
+        look_at_list(type_, node, kept)
     elif isinstance(type_, Leaf):
-        look_at_leaf(type_, node)
+        look_at_leaf(type_, node, kept)
     else:
         assert isinstance(type_, Use)
-        look_at_definition(type_.definition, node, depth)
+        look_at_definition(type_.definition, node, kept)
 
 
-def look_behind(type_, node, depth):
+def look_behind(type_, node, kept):
     if not type_.is_explicit:
-        look_within(type_.of, node, depth + 1)
+        look_within(type_.of, node, kept)
         return
     need_constructed(node)
     within = nodes_of(node.contents)
     if len(within) != 1:
         raise Broken("X.690 8.14.2: one encoding after an explicit tag")
-    look(type_.of, within[0], depth + 1)
+    look(type_.of, within[0], kept)
 
 
 def need_constructed(node):
@@ -138,23 +136,23 @@ def need_constructed(node):
         raise Broken("X.690 8.9.1: constructed")
 
 
-def look_at_definition(found, node, depth):
+def look_at_definition(found, node, kept):
     if isinstance(found, Alias):
-        look_within(found.type, node, depth + 1)
+        look_within(found.type, node, kept)
     elif isinstance(found, List):
-        look_at_list(found.listed, node, depth)
+        look_at_list(found.listed, node, kept)
     elif isinstance(found, Choice):
-        look_within(next(it.type for it in found.alternatives if begins(it.type, node)), node, depth + 1)
+        look_within(next(it.type for it in found.alternatives if begins(it.type, node)), node, kept)
     elif isinstance(found, Enumeration):
         number = number_of(node)
         if number not in [one.number for one in found.values]:
             raise Broken("X.680 20: no enumeration with this number")
     else:
         assert isinstance(found, Struct)
-        look_at_fields(found, node, depth)
+        look_at_fields(found, node, kept)
 
 
-def look_at_fields(found, node, depth):
+def look_at_fields(found, node, kept):
     """The fields in their order; what is left over is none of them."""
     need_constructed(node)
     left = nodes_of(node.contents)
@@ -163,7 +161,7 @@ def look_at_fields(found, node, depth):
             if one.presence is Presence.ALWAYS:
                 raise Broken("X.690 8.9.2: a component is absent, or another stands in its place")
             continue
-        look(one.type, left[0], depth + 1)
+        look(one.type, left[0], kept)
         if one.presence is Presence.DEFAULT and is_default(one, left[0]):
             raise Broken("X.690 11.5: a default is encoded")
         left.pop(0)
@@ -185,13 +183,13 @@ def is_default(one, node):
     return isinstance(value, int) and int.from_bytes(contents, "big", signed=True) == value
 
 
-def look_at_list(listed, node, depth):
+def look_at_list(listed, node, kept):
     need_constructed(node)
     items = nodes_of(node.contents)
     if listed.is_never_empty and not items:
         raise Broken("X.680 51.5: SIZE of a list")
     for item in items:
-        look(listed.item, item, depth + 1)
+        look(listed.item, item, kept)
     if listed.is_set and not listed.is_any_order and any(b.whole < a.whole for a, b in zip(items, items[1:])):
         raise Broken("X.690 11.6: order of a SET OF")
 
@@ -210,7 +208,7 @@ def number_of(node):
     return int.from_bytes(octets, "big", signed=True)
 
 
-def look_at_leaf(leaf, node):
+def look_at_leaf(leaf, node, kept):
     whole = leaf.whole
     if whole is Whole.ANY:
         return
@@ -229,6 +227,7 @@ def look_at_leaf(leaf, node):
         look_at_time(whole, node.contents)
     else:
         look_at_octets(leaf, node.contents)
+        kept += [node.contents] if whole is Whole.OBJECT_IDENTIFIER else []
 
 
 def look_at_number(leaf, number):
@@ -321,9 +320,11 @@ def is_allowed(allowed, values):
     return all(any(low <= it <= high for low, high in allowed.runs) for it in values.get(allowed.measure, ()))
 
 
-def has_no_arcs(octets):
-    """Whether some element with the tag of an OBJECT IDENTIFIER has octets that are no arcs: a reader here keeps them as they are."""
-    return any(node.tag == (0, 6) and not node.is_constructed and not is_arcs(node.contents) for node in every(octets) if node.contents)
+def has_no_arcs(type_, octets):
+    """Whether some OBJECT IDENTIFIER, of the type or within an ANY, has octets that are no arcs: a reader here keeps them as they are."""
+    kept = [node.contents for node in every(octets) if node.tag == (0, 6) and not node.is_constructed and node.contents]
+    broken(type_, octets, kept)
+    return not all(map(is_arcs, kept))
 
 
 def is_well_formed(octets):
