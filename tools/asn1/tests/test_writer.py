@@ -268,8 +268,16 @@ class Shapes(unittest.TestCase):
         self.assertNotIn("a_first", found["specs/Test/Grammar.antt"])
 
     def test_a_choice_of_many_others_is_read_at_once(self) -> None:
-        alternatives = ", ".join(f"a{i} [{i}] NULL" for i in range(9))
-        self.assertNotIn("src/test/a_first.rt", written(module_of(f"A ::= CHOICE {{ {alternatives} }}")))
+        for count in (9, 10):
+            alternatives = ", ".join(f"a{i} [{i}] NULL" for i in range(count))
+            self.assertNotIn("src/test/a_first.rt", written(module_of(f"A ::= CHOICE {{ {alternatives} }}")))
+
+    def test_a_choice_of_more_others_than_are_read_at_once_is_read_in_halves(self) -> None:
+        for count, halves in ((11, {"a_first", "a_other"}), (21, {"a_first", "a_first_first", "a_first_other", "a_other"})):
+            alternatives = ", ".join(f"a{i} [{i}] NULL" for i in range(count))
+            found = written(module_of(f"A ::= CHOICE {{ {alternatives} }}"))
+            self.assertEqual({name for name in found if "src/test/a_" in name}, {f"src/test/{name}.rt" for name in halves})
+            self.assertIn("type Tree = OneOf<AFirst, AOther>;", found["src/test/a.rt"])
 
 
 class Files(unittest.TestCase):

@@ -1,4 +1,5 @@
-"""A CHOICE of many structs is read as one of two halves, each an enum of its own: so it costs the prover less."""
+"""A CHOICE of many structs is read as one of two halves, each an enum of its own: so it costs the prover less. So is a CHOICE of
+more alternatives than the toolchain takes at once."""
 
 from __future__ import annotations
 
@@ -6,6 +7,7 @@ from ..model import Alias, Choice, Definition, Enumeration, Leaf, Listed, Resolv
 from .alternatives import halves
 
 MOST_STRUCTS = 4  # of a CHOICE that is read at once
+MOST_ALTERNATIVES = 10  # of any kind: 'rt try' takes 10, and says of 16 that the requirements of their tree overflow
 SIDES = (("First", "first"), ("Other", "other"))
 
 
@@ -17,12 +19,16 @@ def split_choices(modules: list[ResolvedModule]) -> None:
 
 def with_halves(definition: Definition) -> list[Definition]:
     """A definition after the halves that it is read as."""
-    if not isinstance(definition, Choice) or count_structs(definition) <= MOST_STRUCTS:
+    if not isinstance(definition, Choice) or is_read_at_once(definition):
         return [definition]
     middle = halves(len(definition.alternatives))
     both = (definition.alternatives[:middle], definition.alternatives[middle:])
     definition.halves = tuple(half_of(definition, side, part) for side, part in zip(SIDES, both))
     return [part for half in definition.halves for part in with_halves(half)] + [definition]
+
+
+def is_read_at_once(choice: Choice) -> bool:
+    return count_structs(choice) <= MOST_STRUCTS and len(choice.alternatives) <= MOST_ALTERNATIVES
 
 
 def half_of(whole: Choice, side: tuple[str, str], alternatives: tuple) -> Choice:
