@@ -31,7 +31,8 @@ fn limit_again(alloc: Global, octets: &[u8]) -> Result<Vec<u8>, u8> {
 #[test]
 fn elements_are_read_and_written_as_they_came(rt: HostRuntime) -> Result<(), Fail> {
     let alloc = rt.alloc();
-    // none; one; two, of which one is no DER inside; a tag with a number of two octets
+    // none; the field b, which `Limit` has not; one; three, of which two are no DER inside; a tag
+    // with a number of two octets
     let rows = [
         "3003020105",
         "30060201058001ff",
