@@ -12,13 +12,16 @@ def length(count):
 
 def identifier(bits, number):
     """The identifier octets of a tag: the three high bits of the first octet, and the number (X.690 8.1.2)."""
-    if number < 31:
-        return bytes([bits + number])
+    return bytes([bits + number]) if number < 31 else bytes([bits + 31]) + base_128(number)
+
+
+def base_128(number):
+    """A number in base 128, highest digit first, with bit 8 in all its octets but the last (X.690 8.1.2.4, 8.19.2)."""
     digits = [number & 127]
     while number > 127:
         number >>= 7
         digits.insert(0, 128 + (number & 127))
-    return bytes([bits + 31, *digits])
+    return bytes(digits)
 
 
 def tlv(tag, *parts):

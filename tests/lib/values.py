@@ -8,7 +8,7 @@ import random
 import re
 
 from . import ROOT
-from .octets import identifier, integer, tlv
+from .octets import base_128, identifier, integer, tlv
 
 
 def some_number(r, low, high):
@@ -48,6 +48,8 @@ def text(characters):
 
 PRINTABLE = "ABCZabcz0189 '()+,-./:=?"
 ASCII = [chr(it) for it in range(128)]
+NUMERIC = "0123456789 "
+VISIBLE = [chr(it) for it in range(0x20, 0x7F)]
 UNICODE = ["a", "\0", "\x7f", "é", "߿", "ࠀ", "퟿", "", "￿", "\U00010000", "\U0010ffff"]
 UNITS = [0x0000, 0x0041, 0x00E9, 0x2028, 0xD7FF, 0xE000, 0xFFFE, 0xFFFF]
 
@@ -77,6 +79,19 @@ def general_time(r):
 def utc_time(r):
     year, *rest = some_day(r, 1970, 2049)
     return tlv(0x17, b"%02d%02d%02d%02d%02d%02dZ" % (year % 100, *rest))
+
+
+def fractional_time(r):
+    """A GeneralizedTime whose Z may stand after a fraction, the last digit of which is not 0 (X.690 11.7)."""
+    whole = general_time(r)[2:-1]
+    digits = "".join(r.choice("0123456789") for _ in range(r.choice([0, 1, 2, 5, 120]))) + r.choice("123456789")
+    return tlv(0x18, whole + r.choice([b"", b"." + digits.encode()]) + b"Z")
+
+
+def relative_identifier(r):
+    """One arc or more, each in base 128 with the fewest octets (X.690 8.20)."""
+    arcs = (r.choice([0, 1, 127, 128, 16383, 16384, r.randrange(1 << 70)]) for _ in range(r.choice([1, 2, 3, 20])))
+    return tlv(0x0D, *map(base_128, arcs))
 
 
 def tagged(bits, inner):
@@ -173,6 +188,10 @@ VALUES = {
     "string": lambda r: tlv(0x0C, text(UNICODE)(r)),
     "utf8ref": lambda r: tlv(0x0C, text(UNICODE)(r)),
     "generalref": lambda r: tlv(0x1B, long_octets(r)),
+    "numericref": lambda r: tlv(0x12, text(NUMERIC)(r)),
+    "visibleref": lambda r: tlv(0x1A, text(VISIBLE)(r)),
+    "relativeoidref": relative_identifier,
+    "fractionaltimeref": fractional_time,
     "bmp": lambda r: tlv(0x1E, units(r)),
     "bits": bits,
     "bitsref": bits,
@@ -233,6 +252,8 @@ WIDER = [
     ("ctx-bitsref", "any"),
     ("bmp", "any"),
     ("gentime", "any"),
+    ("gentime", "fractionaltimeref"),
+    ("relativeoidref", "any"),
     ("utctime", "any"),
 ]
 
