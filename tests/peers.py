@@ -38,6 +38,7 @@ CRATE = "peers"
 PROGRAM = "peer_lines"
 OWN = ROOT / "tools/asn1/tests/modules"
 DRIVER = ROOT / "tests/lib/peers/peer.escript"
+ANSWER = re.compile(r"same|other [0-9a-f]*|(?:refused|not written) [0-9]+|no .*")  # 'rt try' says more, after the program's end
 SECONDS = 3600  # of a processor, for each process of a build or of the peer
 # A protocol, its module, and what is changed in the texts that both read, each with its reason.
 UNREAD = [
@@ -185,10 +186,10 @@ def ours(program, rows):
     """The program's answers to rows of a protocol, a type and octets."""
     lines = "".join(f"{CRATE} {one.module}.{name} {octets.hex()}\n" for one, name, octets in rows)
     ran = run(["rt", "try"], program, SECONDS, lines)
-    found = ran.said.splitlines()
+    found = [line.strip() for line in ran.said.splitlines() if ANSWER.fullmatch(line.strip())]
     if ran.status or len(found) != len(rows):
         raise SystemExit(f"peers: the program has ended with {ran.status}, and answered {len(found)} of {len(rows)}: {ran.said[-2000:]}")
-    return [line.strip() for line in found]
+    return found
 
 
 def theirs(folder, rows):
