@@ -35,7 +35,7 @@ def filled(found, order, crates, wanted, chance):
     return found
 
 
-def drawn_tests(tests, share, seed, crates=3):
+def drawn_tests(tests, share, seed, crates=2):
     """This share of test functions, by the names of their crates: of few crates, since each begins with a check of its own. A crate is
     drawn as often as it has tests."""
     chance, number = random.Random(seed), math.ceil(share * sum(map(len, tests.values())))
