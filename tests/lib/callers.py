@@ -15,7 +15,7 @@ EXAMPLES = "crates/der_examples/src"
 CALLERS = {
     "certview_parts": [("crates/certview_text/src/request.rt", "")],
     "certview_text": [("crates/certview/src/main.rt", "")],
-    "der_additions": [(TESTS, "elements_are_given_by_their_places")],
+    "der_additions": [(TESTS, "a_value_is_made_with_elements")],
     "der_ascii": [(f"{EXAMPLES}/texts.rt", "")],
     "der_asn1_types": [(f"{EXAMPLES}/comparing.rt", "")],
     "der_bits": [(f"{EXAMPLES}/bits.rt", "")],

@@ -7,7 +7,6 @@ use der_fields::{FieldSequence, Fields1};
 use der_shapes::shapes::{Extensible, Titled};
 use std::alloc::Global;
 use std::cmp::Ordering;
-use std::process::Abort;
 use std::test::Fail;
 
 /// What each row is refused with: its octets, and the number.
@@ -72,31 +71,6 @@ fn an_element_with_a_fault_is_refused(rt: HostRuntime) -> Result<(), Fail> {
             Err(number),
         );
     }
-    Ok(())
-}
-
-#[test]
-fn elements_are_given_by_their_places(rt: HostRuntime) -> Result<(), Fail> {
-    let alloc = rt.alloc();
-    let octets = hex::decode(alloc, "300b02010580010081008201ff")?;
-    let value = numbered(Extensible::from_der(alloc, octets.as_slice()))?;
-    same(&rt, value.b(), Some(false));
-    let additions = value.additions();
-    same(
-        &rt,
-        additions.as_bytes(),
-        [0x81, 0, 0x82, 1, 0xff].as_slice(),
-    );
-    holds(&rt, !additions.is_empty());
-    let contents = additions.get(alloc, 1).map(|addition| addition.value());
-    same(&rt, contents, Some([0xff].as_slice()));
-    same(&rt, additions.get(alloc, 2), None);
-    let mut count = 0;
-    'each: for addition in additions.iter(alloc) {
-        let _addition = numbered(addition)?;
-        count += 1;
-    }
-    same(&rt, count, 2);
     Ok(())
 }
 

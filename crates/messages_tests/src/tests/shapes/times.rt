@@ -1,13 +1,11 @@
 //! GeneralizedTime with a fraction of a second: alone, as fields and as items.
 
-use crate::tests::{again, is_copied, numbered, same, same_in};
-use der_elem::{DerOrd, Encode, FromDer};
+use crate::tests::{again, is_copied, numbered, same_in};
+use der_elem::{Encode, FromDer};
 use der_shapes::shapes::Session;
 use der_simple::FractionalTimeRef;
 use der_time::DateTime;
 use std::alloc::Global;
-use std::cmp::Ordering;
-use std::process::Abort;
 use std::test::Fail;
 
 /// What each row is refused with: its octets, and the number.
@@ -77,13 +75,6 @@ fn other_times_are_refused(rt: HostRuntime) -> Result<(), Fail> {
     Ok(())
 }
 
-// Whether these contents octets are this second with this fraction.
-fn is_made_of(contents: &str, second: DateTime, fraction: &str) -> Result<bool, u8> {
-    let time = numbered(FractionalTimeRef::from_bytes(contents.as_bytes()))?;
-    let is_second = time.seconds().to_date_time() == second;
-    Ok(is_second && time.fraction() == fraction.as_bytes())
-}
-
 fn second() -> Result<DateTime, u8> {
     numbered(DateTime::new(1992, 7, 22, 13, 21, 0))
 }
@@ -94,51 +85,6 @@ fn encoded(alloc: Global, contents: &str) -> Result<Vec<u8>, u8> {
         Ok(time) => numbered(time.to_der(alloc)),
         Err(e) => Err(e.kind().number()),
     }
-}
-
-#[test]
-fn a_time_is_made_of_a_second_and_a_fraction(rt: HostRuntime) -> Result<(), Fail> {
-    let second = second()?;
-    for (contents, fraction) in [
-        ("19920722132100.3Z", "3"),
-        ("19920722132100.00025Z", "00025"),
-        ("19920722132100Z", ""),
-    ] {
-        same_in(
-            &rt,
-            &contents,
-            is_made_of(contents, second, fraction),
-            Ok(true),
-        );
-    }
-    let alloc = rt.alloc();
-    let octets = hex::decode(alloc, "181131393932303732323133323130302e335a")?;
-    same(&rt, encoded(alloc, "19920722132100.3Z")?, octets);
-    same(&rt, encoded(alloc, "19920722132100.30Z"), Err(13));
-    same(&rt, encoded(alloc, "19920722132100.3"), Err(13));
-    Ok(())
-}
-
-// The order of the contents octets, that of the encodings, and whether the two are equal.
-fn orders(first: &str, second: &str) -> Result<(Ordering, Ordering, bool), u8> {
-    let first = numbered(FractionalTimeRef::from_bytes(first.as_bytes()))?;
-    let second = numbered(FractionalTimeRef::from_bytes(second.as_bytes()))?;
-    Ok((
-        first.cmp(&second),
-        numbered(first.der_cmp(&second))?,
-        first == second,
-    ))
-}
-
-#[test]
-fn the_order_is_that_of_the_octets(rt: HostRuntime) -> Result<(), Fail> {
-    let found = orders("19920722132100.3Z", "19920722132100.4Z");
-    same(&rt, found, Ok((Ordering::Less, Ordering::Less, false)));
-    let found = orders("19920722132100.3Z", "19920722132100Z");
-    same(&rt, found, Ok((Ordering::Less, Ordering::Greater, false)));
-    let found = orders("19920722132100.3Z", "19920722132100.3Z");
-    same(&rt, found, Ok((Ordering::Equal, Ordering::Equal, true)));
-    Ok(())
 }
 
 // The fractions of a session's begin and of its end, how many pauses it has, and whether its copy is
