@@ -1,5 +1,5 @@
 /* Prints where the fields of a certificate stand: certificate FILE, of one certificate in DER. */
-#include "der.h"
+#include <barleypulley/der.h>
 
 #include <inttypes.h>
 #include <stdio.h>
@@ -14,7 +14,7 @@ static int refused(const der_fault *fault)
 {
     fprintf(stderr, "refused: %s (%" PRIu32 ")", der_number_text(fault->number), fault->number);
     if (fault->is_placed)
-        fprintf(stderr, ", behind %" PRIu32 " octets", fault->position);
+        fprintf(stderr, ", after %" PRIu32 " octets", fault->position);
     fprintf(stderr, "\n");
     return 1;
 }

@@ -1,5 +1,5 @@
 /* The numbers of faults in words. They are not proved. */
-#include "der.h"
+#include <barleypulley/der.h>
 
 const char *der_number_text(uint32_t number)
 {
@@ -29,7 +29,7 @@ const char *der_number_text(uint32_t number)
         return "a null pointer with a length";
     if (number == DER_UNKNOWN_NAME)
         return "no type has the name";
-    if (number == DER_SHORT_ROOM)
-        return "a room that is too short";
+    if (number == DER_SHORT_BUFFER)
+        return "a buffer that is too short";
     return number < sizeof texts / sizeof texts[0] ? texts[number] : "no such number";
 }

@@ -18,16 +18,24 @@ import tempfile
 import warnings
 
 from lib import ROOT
+from lib.packages import try_go, try_other_version, try_python, try_rust
 from lib.readme_lines import try_lines
 from lib.trials import Trials, write_files
 
 SYSTEM = "/etc/ssl/certs/ca-certificates.crt"
 # what the shared object may ask of the C library, and of the linker
-ASKED = re.compile(r"^(malloc|realloc|free|mem(cpy|move|set|cmp)|bcmp|_ITM_.*|__gmon_start__|__cxa_finalize|__stack_chk_fail)$")
-CALLS = """abi_version attribute attribute_type_and_value basic_ocsp_response canonical certificate certificate_list
-certification_request check_rfc5280 check_rfc5280_list content_info contents extension next_encoding number_text
-ocsp_response private_key_info revoked_certificate signed_data signed_octets signer_info single_response
-subject_public_key_info""".split()
+ASKED = re.compile(r"^(malloc|realloc|free|mem(cpy|move|set|cmp)|bcmp|strlen|_ITM_.*|__gmon_start__|__cxa_finalize|__stack_chk_fail)$")
+CALLS = """abi_version attribute attribute_type_and_value basic_ocsp_response canonical canonical_named certificate
+certificate_list certification_request check_rfc5280 check_rfc5280_list content_info contents extension extensions
+has_attribute items name next_attribute next_encoding next_extension next_name_attribute next_revoked_certificate
+next_signer_info next_single_response number_text ocsp_response private_key_info revoked_certificate signed_data
+signed_octets signer_info single_response subject_public_key_info""".split()
+# A file that includes the header, with members of a struct that have the names of calls.
+INCLUDED = """struct own { int der_certificate, der_contents; };
+#include <barleypulley/der.h>
+int sum_of(const struct own *own);
+int sum_of(const struct own *own) { return own->der_certificate + own->der_contents; }
+"""
 # the versions of the languages that include the header
 HEADERS = {version: ["cc", f"-std={version}", "-x", "c"] for version in ("c89", "c99", "c11", "c17")}
 HEADERS.update({version: ["c++", f"-std={version}", "-x", "c++"] for version in ("c++98", "c++11", "c++17")})
@@ -86,9 +94,22 @@ def make_messages(room):
     return [f"{room}/{name}.pem" for name in names] + make_answers(room)
 
 
+def make_many(trials, room):
+    """The file of more than 500 messages that `cryptography` writes."""
+    try:
+        from lib import made_messages
+    except ImportError:
+        trials.left_out("more than 500 messages", "cryptography")
+        return []
+    warnings.simplefilter("ignore")
+    count = made_messages.write(f"{room}/many.pem", f"{room}/ec.pem", f"{room}/own.pem")
+    trials.tell(f"{count} messages of cryptography", count <= 500 and "they are too few")
+    return [f"{room}/many.pem"]
+
+
 def try_symbols(trials, room):
     """The shared object has the calls and no other name, and asks for no more than memory."""
-    shared = f"{room}/build/libder_c.so.1"
+    shared = f"{room}/build/libder_c.so.2"
     found = subprocess.run(["nm", "-D", shared], text=True, capture_output=True, check=True).stdout.splitlines()
     rows = [row.split()[-2:] for row in found]
     given = sorted(name.split("@")[0] for kind, name in rows if kind in "TDBR")
@@ -108,7 +129,7 @@ def try_c(trials, room, sample, files):
     """The tests in C, beside OpenSSL where its headers are there, and under valgrind where that is there."""
     make = ["make", "-s", "-C", f"{ROOT}/c", f"BUILD={room}/build", f"OBJECT={room}/proved.a"]
     trials.run("make", make)
-    trials.run("make install", [*make, "install", f"DESTDIR={room}/installed"])
+    trials.run("make install", [*make, "install", f"PREFIX={room}/prefix"])
     names = {"calls": "calls from C", "canonical": "canonical encodings from C", "rules": "rules of RFC 5280 from C"}
     # (the rules are broken by single octets of a certificate of openssl's, whose extensions are known)
     given = {name: f"{room}/plain.der" if name == "rules" else sample for name in names}
@@ -134,7 +155,7 @@ def try_c(trials, room, sample, files):
 
 def try_header(trials, room):
     """The header in old and new versions of C and C++; none of them takes it with a struct that is laid out otherwise."""
-    with open(f"{ROOT}/c/include/der.h", encoding="utf-8") as file:
+    with open(f"{ROOT}/c/include/barleypulley/der.h", encoding="utf-8") as file:
         header = file.read()
     for name, words in HEADERS.items():
         if not shutil.which(words[0]):
@@ -143,14 +164,19 @@ def try_header(trials, room):
         trials.tell(f"the header in {name}", refusal_of_header(words, room, header))
         other = header.replace("    der_place critical;", "    uint32_t critical;")
         trials.tell(f"another struct in {name}", not refusal_of_header(words, room, other) and "it is taken")
+    macros = subprocess.run(["cc", "-E", "-dM", f"-I{room}", "-"], input=INCLUDED, text=True, capture_output=True).stdout
+    named = re.findall(r"^#define ((?:BARLEYPULLEY_|DER_|der_)\w+)", macros, re.M)
+    other = [name for name in named if name not in ("BARLEYPULLEY_DER_H", "DER_ABI_VERSION")]
+    trials.tell("the macros of the header", other or (len(named) != 2 and f"{named}"))
 
 
 def refusal_of_header(words, room, header):
     """What a compiler says of a header that a file includes; nothing where it takes it."""
-    with open(f"{room}/der.h", "w", encoding="utf-8") as file:
+    os.makedirs(f"{room}/barleypulley", exist_ok=True)
+    with open(f"{room}/barleypulley/der.h", "w", encoding="utf-8") as file:
         file.write(header)
     command = [*words, "-Wall", "-Wextra", "-Werror", "-pedantic", "-fsyntax-only", f"-I{room}", "-"]
-    ran = subprocess.run(command, input='#include "der.h"\n', text=True, capture_output=True)
+    ran = subprocess.run(command, input=INCLUDED, text=True, capture_output=True)
     return ran.returncode and (ran.stderr[-2000:] or f"status {ran.returncode}")
 
 
@@ -168,77 +194,6 @@ def try_fuzzer(trials, room, samples):
     print("c: the fuzzer:", *re.findall(r"Done \d+ runs.*", told))
 
 
-def told_by_cryptography(names):
-    """What the example in Rust must print of certificates, by `cryptography`; or none, where that is not there."""
-    try:
-        from cryptography import x509
-        from cryptography.hazmat.primitives.serialization import Encoding, PublicFormat
-    except ImportError:
-        return None
-    warnings.simplefilter("ignore")
-    lines = []
-    for name in names:
-        with open(name, "rb") as file:
-            one = x509.load_der_x509_certificate(file.read())
-        key = one.public_key().public_bytes(Encoding.DER, PublicFormat.SubjectPublicKeyInfo)
-        lines += [f"version {one.version.value + 1}", f"not before {int(one.not_valid_before_utc.timestamp())}"]
-        lines += [f"not after {int(one.not_valid_after_utc.timestamp())}", f"signed {one.tbs_certificate_bytes.hex()}"]
-        lines += [f"issuer {one.issuer.public_bytes().hex()}", f"subject {one.subject.public_bytes().hex()}"]
-        lines += [f"key {key.hex()}", f"signature 00{one.signature.hex()}"]
-        lines += ["critical" if extension.critical else "other" for extension in one.extensions]
-    return lines
-
-
-def seen_by_cryptography(line):
-    """A line of the example in Rust as `cryptography` tells it; none of what it does not tell."""
-    if line.startswith("extension "):
-        return line.split()[2]
-    return None if line.startswith(("serial number", "algorithm of the key")) else line
-
-
-def try_rust(trials, room, names):
-    """The crates in Rust: their tests, and the fields of certificates beside `cryptography`."""
-    if not shutil.which("cargo"):
-        trials.left_out("Rust", "cargo")
-        return
-    others = {"cwd": f"{ROOT}/rust", "env": {**os.environ, "DER_C_LIB": f"{room}/build", "CARGO_TARGET_DIR": f"{room}/target"}}
-    trials.run("the tests in Rust", ["cargo", "test", "-q", "--offline"], **others)
-    trials.run("the example in Rust", ["cargo", "build", "-q", "--offline", "--release", "--examples"], **others)
-    ran = subprocess.run([f"{room}/target/release/examples/fields", *names], text=True, capture_output=True)
-    wanted = told_by_cryptography(names)
-    if wanted is None:
-        trials.left_out("Rust beside cryptography", "cryptography")
-        return
-    found = [line for line in map(seen_by_cryptography, ran.stdout.splitlines()) if line]
-    differ = [f"{one[:80]}, not {other[:80]}" for one, other in zip(found, wanted) if one != other]
-    trials.tell(f"Rust beside cryptography, {len(wanted)} lines", ran.stderr or len(found) != len(wanted) or differ[:3])
-
-
-def try_python(trials, room, files):
-    """The package for Python, and its tests beside `cryptography`."""
-    others = {"cwd": f"{ROOT}/python", "env": {**os.environ, "DER_C_LIB": f"{room}/build", "DER_TEST_FILES": os.pathsep.join(files)}}
-    needs = "import setuptools, sysconfig, os, sys; sys.exit(not os.path.isfile(sysconfig.get_path('include') + '/Python.h'))"
-    if subprocess.run([sys.executable, "-c", needs], capture_output=True).returncode or sys.version_info < (3, 11):
-        trials.left_out("Python", "setuptools, Python.h or Python 3.11")
-        return
-    words = [sys.executable, "-B", "setup.py", "-q", "build", "--build-base", f"{room}/python", "--build-lib", f"{room}/python/lib"]
-    trials.run("the package for Python", words, **others)
-    others["env"]["PYTHONPATH"] = f"{room}/python/lib"
-    trials.run("the tests in Python", [sys.executable, "-B", "-W", "ignore", "-m", "unittest", "-q", "tests/test_derproved.py"], **others)
-
-
-def try_go(trials, room, files):
-    """The package for Go, and its tests beside crypto/x509."""
-    if not shutil.which("go"):
-        trials.left_out("Go", "go, of Debian's package golang-go,")
-        return
-    settings = {**os.environ, "CGO_LDFLAGS": f"-L{room}/build", "GOCACHE": f"{room}/go", "DER_TEST_FILES": os.pathsep.join(files)}
-    others = {"cwd": f"{ROOT}/go", "env": settings}
-    trials.run("go vet", ["go", "vet", "./..."], **others)
-    told = trials.run("the tests in Go", ["go", "test", "-count=1", "-v", "./..."], **others)
-    print("c: Go beside crypto/x509:", *re.findall(r"\d+ certificates", told))
-
-
 def main(words):
     tree = words[1] if words[:1] == ["--built"] else ROOT
     trials = Trials("c")
@@ -250,6 +205,7 @@ def main(words):
         with open(f"{ROOT}/crates/certview/stdin", encoding="utf-8") as file:
             samples = write_files(file.read(), "CERTIFICATE", room)
         own = make_messages(room) if shutil.which("openssl") else []
+        own += make_many(trials, room) if own else []
         files = own + glob.glob(SYSTEM)
         system = [name for path in glob.glob(SYSTEM) for name in write_files(open(path, encoding="utf-8").read(), "CERTIFICATE", room)]
         try_c(trials, room, samples[0], files)
@@ -257,9 +213,10 @@ def main(words):
         text = "".join(open(name, encoding="utf-8").read() for name in own)
         seeds = [name for label in ("CERTIFICATE REQUEST", "OCSP RESPONSE", "CMS", "X509 CRL") for name in write_files(text, label, room)]
         try_fuzzer(trials, room, (system or samples) + seeds)
-        try_rust(trials, room, system or samples)
+        try_rust(trials, room, system or samples, own)
         try_python(trials, room, own)
         try_go(trials, room, own)
+        try_other_version(trials, room, samples[0])
         try_lines(trials, room, samples[0])
     return trials.end()
 

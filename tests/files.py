@@ -144,7 +144,7 @@ def compare_made(made, document, counted=True):
     both = compare_message(what, made.taken_for or made.kind, held[0][1], message, refused)
     if both == bool(made.refused):
         fail(f"{what}: it is {'read' if both else 'refused'}, and that is not expected: {made.refused or refused}")
-    if both and is_malformed(message) != bool(made.malformed) and not made.may_be_malformed:
+    if both and is_malformed(message) != bool(made.malformed):
         fail(f"{what}: that a part is malformed, or that none is, is not expected: {made.malformed}")
     counts[made.kind] += counted
     return both

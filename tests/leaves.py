@@ -1,7 +1,8 @@
 #!/usr/bin/env python3
 """Writes a crate by tools/asn1 from a module that has every type of the library (the rows of `writer/leaves.py`): in a SEQUENCE,
 after a tag and OPTIONAL, in a SEQUENCE OF, in a SET OF and in a CHOICE. 'rt try' compiles it, and values of each are read and
-written in the first and the last. The module has tabs, and names that are words of Rattle or of its pages.
+written in the first and the last. The module has tabs, names that are words of Rattle or of its pages, types
+that the layer lacks in part, and lists whose default is the empty one.
 
     python3 tests/leaves.py
 
@@ -76,6 +77,46 @@ OF_WORDS = [
     ("Variants", "0101ff"),
     ("Variants", "810103"),
 ]
+# Types that the layer lacks in part, and lists whose default is the empty one; encodings of each, and some that are refused.
+PARTS = """Kept ::= SEQUENCE { a NULL, b GraphicString }
+KeptList ::= SEQUENCE OF EXTERNAL
+KeptSet ::= SET { b GraphicString }
+Keeper ::= SEQUENCE { a Kept, b [1] Kept OPTIONAL, c SEQUENCE OF Kept, d [2] KeptSet OPTIONAL, e KeptSet OPTIONAL, f EXTERNAL OPTIONAL }
+Left ::= CHOICE { a GraphicString, b INTEGER (0..255) }
+Lefts ::= SEQUENCE { a Left, b [0] Left DEFAULT b : 7 }
+Between ::= SET { a CHOICE { b BOOLEAN, c NULL }, d INTEGER }
+Betweens ::= SEQUENCE { a [0] Between OPTIONAL, b [1] SET { a ANY } OPTIONAL }
+Round ::= SET { a NULL, b Round OPTIONAL, c Rounds OPTIONAL }
+Rounds ::= SEQUENCE { a SET OF Round }
+Numbers ::= SEQUENCE OF INTEGER
+Absent ::= SEQUENCE { a SET OF NULL DEFAULT {}, b [0] Numbers DEFAULT {}, c [1] EXPLICIT Numbers DEFAULT {} }
+"""
+OF_PARTS = [
+    ("Kept", "3005" + "0500190161"),
+    ("KeptList", "3002" + "2800"),
+    ("Keeper", "3010" + "30050500190161" + "3007" + "30050500190161"),
+    ("Keeper", "3015" + "3000" + "a1050500190161" + "3004" + "30003000" + "a204" + "19021900"),
+    ("Left", "020105"),
+    ("Lefts", "3003" + "020105"),
+    ("Lefts", "3008" + "020105" + "a003020108"),
+    ("Between", "3106" + "0101ff" + "020105"),
+    ("Between", "3105" + "020105" + "0500"),
+    ("Betweens", "3006" + "a0020500" + "a100"),
+    ("Round", "3102" + "0500"),
+    ("Round", "3106" + "0500" + "3102" + "0500"),
+    ("Rounds", "3006" + "3104" + "3102" + "0500"),
+    ("Absent", "3000"),
+    ("Absent", "3010" + "31020500" + "a003020105" + "a1053003020105"),
+]
+REFUSED = [
+    ("Kept", "3105" + "0500190161"),
+    ("Left", "190161"),
+    ("Lefts", "3008" + "020105" + "a003020107"),
+    ("Between", "3104" + "0101fe" + "05"),
+    ("Absent", "3002" + "3100"),
+    ("Absent", "3002" + "a000"),
+    ("Absent", "3004" + "a1023000"),
+]
 CONSTRUCTED = frozenset([0x30])
 GROUPS = [ROWS[i : i + AT_ONCE] for i in range(0, len(ROWS), AT_ONCE)]
 # The forms of a type of a group: its kind, and a component.
@@ -99,7 +140,7 @@ def component(form, i, row, is_last):
 
 def module():
     """The module of all leaves."""
-    lines = f"Inner ::= SEQUENCE {{ x NULL }}\nBits ::= BIT STRING {{ first(0) }}\n{WORDS}"
+    lines = f"Inner ::= SEQUENCE {{ x NULL }}\nBits ::= BIT STRING {{ first(0) }}\n{WORDS}{PARTS}"
     for number, group in enumerate(GROUPS):
         for name, (kind, form) in FORMS.items():
             parts = [component(form, i, row, row is group[-1]) for i, row in enumerate(group)]
@@ -117,7 +158,7 @@ def after(i, row):
 
 def values():
     """Pairs of a type and an encoding."""
-    for name, digits in OF_WORDS:
+    for name, digits in OF_WORDS + OF_PARTS:
         yield name, bytes.fromhex(digits)
     for number, group in enumerate(GROUPS):
         yield f"Alone{number}", sequence(*(bytes.fromhex(row[3]) for row in group))
@@ -165,7 +206,16 @@ def tests():
             f"        let octets = hex::decode(alloc, digits)?;\n"
             f"        holds(&rt, {snake}_again(alloc, octets.as_slice()));\n    }}\n    Ok(())\n}}\n"
         )
-    return "\n".join(found)
+    return "\n".join([*found, refusals()])
+
+
+def refusals():
+    """The test of encodings that are refused."""
+    lines = "".join(
+        f'    let octets = hex::decode(alloc, "{digits}")?;\n    holds(&rt, !{name.lower()}_again(alloc, octets.as_slice()));\n'
+        for name, digits in REFUSED
+    )
+    return f"#[test]\nfn some_are_refused(rt: HostRuntime) -> Result<(), Fail> {{\n    let alloc = rt.alloc();\n{lines}    Ok(())\n}}\n"
 
 
 def library():
@@ -216,7 +266,7 @@ def main():
             ["rt", "try", "--test"], cwd=f"{folder}/crates/leaves_tests", stdin=subprocess.DEVNULL,
             stdout=subprocess.PIPE, stderr=subprocess.STDOUT, text=True, errors="replace", check=False,
         )
-    wanted = len({name for name, _ in values()})
+    wanted = len({name for name, _ in values()}) + 1
     passed = len(re.findall(r"^test \S+ \.\.\. ok$", tried.stdout, re.M))
     failed = len(lacking) + max(wanted - passed, 0 if tried.returncode == 0 else 1)
     if failed:

@@ -13,7 +13,7 @@ import dearest
 import edits
 from lib.edit_checks import Answer
 from lib.edit_texts import Edit
-from lib.kept_edits import Kept, Record, Refusal, refusal_of
+from lib.kept_edits import Kept, Record, Refusal, refusal_of, sum_of_sources
 from lib.lots import drawn, drawn_tests
 
 SOURCE = "/// Adds one.\nfn one_more(n: u8) -> u8 {\n    n + 1\n}\n\nfn one_less(n: u8) -> u8 {\n    n - 1\n}\n"
@@ -100,6 +100,27 @@ class Records(unittest.TestCase):
         self.assertEqual(record.unlike([f"refused (1 of 2): {one.line()}\n", f"refused (2 of 2): {other.line()}\n"]), [])
         self.assertEqual(record.unlike([f"refused (1 of 2): {one.line()}\n{other.line()}\n"]), [other])
         self.assertEqual(record.unlike([f"refused (1 of 2): {one.line().replace('one_more', 'one_less')}\n"]), [one, other])
+
+
+class SumsOfSources(unittest.TestCase):
+    def sum_of(self, source, specs="-- A number.\nn : ℕ\n"):
+        with tempfile.TemporaryDirectory() as folder:
+            for name, text in (("src/lib.rt", source), ("specs/Lib.antt", specs)):
+                os.makedirs(os.path.dirname(f"{folder}/{name}"))
+                with open(f"{folder}/{name}", "w", encoding="utf-8") as file:
+                    file.write(text)
+            return sum_of_sources(folder)
+
+    def test_comments_do_not_count(self):
+        whole = self.sum_of(SOURCE)
+        self.assertEqual(self.sum_of(SOURCE.replace("/// Adds one.", "//! One more.\n  // And none less.")), whole)
+        self.assertEqual(self.sum_of(SOURCE, "n : ℕ\n  -- It is a number.\n"), whole)
+
+    def test_each_line_of_code_counts(self):
+        whole = self.sum_of(SOURCE)
+        for source in (SOURCE.replace("n + 1", "n + 2"), SOURCE.replace("n + 1", "n + 1 // more"), SOURCE.replace("{\n", "{ ", 1), SOURCE + "-- a\n"):
+            self.assertNotEqual(self.sum_of(source), whole)
+        self.assertNotEqual(self.sum_of(SOURCE, "// A number.\nn : ℕ\n"), whole)
 
 
 class Answers(unittest.TestCase):

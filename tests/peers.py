@@ -47,7 +47,6 @@ UNREAD = [
 ]
 NAMELESS = (r"(name ObjectName,\s*)CHOICE", r"\1data CHOICE", "a component has no name, as X.208 allows and X.680 does not")
 RESTRICTED = (r"GeneralString \(IA5String\)", "GeneralString", "the peer ends with an error of its own")
-RESULT = (r"(Result\s*::=\s*ENUMERATED[^}]*\})", r"\1 -- @name(ResultValue)", "the written file uses the name Result")
 PROTOCOLS = [
     ("Kerberos", "KerberosV5Spec2", [RESTRICTED]),
     ("SNMP", "SNMPv2-PDU", [NAMELESS]),
@@ -65,7 +64,9 @@ PROTOCOLS = [
     ("PKCS 8", "PKCS-8", []),
     ("SPNEGO", "Spnego", []),
     ("CredSSP", "CredSSP", []),
-    ("T.125", "MCS-PROTOCOL", [RESULT]),
+    ("T.125", "MCS-PROTOCOL", []),
+    ("SMRSE", "SMRS", []),
+    ("compressed data", "CompressedDataType", []),
 ]
 
 
@@ -215,11 +216,11 @@ def rows_of(folder, protocols, options):
 
 
 def has_remarks(definition, seen):
-    """Whether something of a type, or of those within it, is said not to be checked."""
+    """Whether a constraint of a type, or of those within it, is said not to be checked."""
     if id(definition) in seen:
         return False
     seen.add(id(definition))
-    return any("not checked" in it for it in definition.remarks) or any(has_remarks(it, seen) for it in peer_clauses.within(definition))
+    return any("is not checked" in it for it in definition.remarks) or any(has_remarks(it, seen) for it in peer_clauses.within(definition))
 
 
 def explained(protocol, definition, octets, here, there):
@@ -245,8 +246,9 @@ def why_taken(protocol, definition, octets, there):
         return "X.690 8.19.2: octets of an identifier that are no arcs, which are kept"
     if not peer_clauses.is_well_formed(octets):
         return "X.690 8.1: octets within an ANY, which are kept"
-    if protocol.is_unread and peer_clauses.has_unread(definition, set()):
-        return "X.690 8.1: a component with '@unread', which is kept"
+    kept = peer_clauses.UNREAD if protocol.is_unread else peer_clauses.UNREAD_SEQUENCE  # without '@unread' an ANY is the module's own
+    if peer_clauses.has_unread(definition, kept, set()):
+        return "X.690 8.1: a component that is not read, whose octets are kept"
     if there.startswith("refused") and has_remarks(definition, set()):
         return "X.680 51: a constraint that is said not to be checked"
     return None

@@ -17,9 +17,11 @@ from asn1.parser import parse_modules
 
 MODULE = """Test DEFINITIONS IMPLICIT TAGS ::= BEGIN
 All ::= SEQUENCE { a BOOLEAN DEFAULT FALSE, n INTEGER (-5..300) OPTIONAL, s [0] UTF8String (SIZE (1..2)) OPTIONAL, i OBJECT IDENTIFIER OPTIONAL,
-    l [1] SET OF INTEGER OPTIONAL, c [2] Either OPTIONAL, t GeneralizedTime OPTIONAL, b BIT STRING { one(0) } OPTIONAL, any [3] ANY OPTIONAL, j [4] OBJECT IDENTIFIER OPTIONAL }
+    l [1] SET OF INTEGER OPTIONAL, c [2] Either OPTIONAL, t GeneralizedTime OPTIONAL, b BIT STRING { one(0) } OPTIONAL, any [3] ANY OPTIONAL, j [4] OBJECT IDENTIFIER OPTIONAL, d [5] SEQUENCE OF NULL DEFAULT {} }
 Either ::= CHOICE { x [0] NULL, e [1] ENUMERATED { zero, one } }
 Open ::= SEQUENCE { a INTEGER (0..5, ...) }
+Round ::= SEQUENCE { a [0] Round OPTIONAL }
+Plain ::= SEQUENCE { a INTEGER (0..5) }
 END
 """
 # Octets, and the beginning of the clause that they break as an All.
@@ -63,6 +65,8 @@ ROWS = [
     ("3004a3020500", None),
     ("3002a300", "X.690 8.14.2"),
     ("30050500010100", "X.690 8.9.2"),
+    ("3004a5020500", None),
+    ("3002a500", "X.690 11.5"),
 ]
 
 
@@ -82,7 +86,9 @@ class Clauses(unittest.TestCase):
 
     def test_a_part_that_is_kept_as_it_is_is_found(self):
         found = types()
-        self.assertEqual([peer_clauses.has_unread(found[name], set()) for name in ("All", "Either", "Open")], [True, False, False])
+        rows = [("All", True, False), ("Either", False, False), ("Open", False, False), ("Round", True, True)]
+        for name, *wanted in rows:
+            self.assertEqual([peer_clauses.has_unread(found[name], it, set()) for it in (peer_clauses.UNREAD, peer_clauses.UNREAD_SEQUENCE)], wanted)
 
     def test_arcs_that_do_not_end_or_begin_with_80_are_none(self):
         all_of = Use(types()["All"])
@@ -121,6 +127,8 @@ class Answers(unittest.TestCase):
         ("All", "300406022a80", "same", "refused why", "taken here alone"),
         ("Open", "3003020106", "same", "refused why", "taken here alone"),
         ("All", "3005a303300105", "same", "refused why", "taken here alone"),
+        ("Round", "3006a00430020500", "same", "refused why", "taken here alone"),
+        ("Plain", "3003020105", "same", "refused why", "unexplained"),
         ("All", "3006a30430020500", "same", "refused why", "unexplained"),
         ("All", "3006a30430020500", "refused 4", "rest 2", "unexplained"),
     ]

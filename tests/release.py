@@ -130,7 +130,7 @@ def use_pkg_config(machine):
         file.write(program_of(page.read()))
     installed = f"{machine.folder}/installed"
     by_it = f"PKG_CONFIG_PATH={installed}/lib/pkgconfig pkg-config"
-    line = f"cc -std=c11 -o dates dates.c $({by_it} --cflags --libs der) -Wl,-rpath,$({by_it} --variable=libdir der)"
+    line = f"cc -std=c11 -o dates dates.c $({by_it} --cflags --libs barleypulley) -Wl,-rpath,$({by_it} --variable=libdir barleypulley)"
     machine.run("the program of docs/C.md, by pkg-config", ["sh", "-c", line])
     if not os.path.isfile(f"{machine.folder}/dates"):
         return
@@ -141,7 +141,7 @@ def use_pkg_config(machine):
 
 def use_aarch64(machine):
     """The other object, by a compiler for it and a program that runs it."""
-    tools = {"CC": "aarch64-linux-gnu-gcc", "LD": "aarch64-linux-gnu-ld", "AR": "aarch64-linux-gnu-ar", "OBJCOPY": "aarch64-linux-gnu-objcopy"}
+    tools = {"CC": "aarch64-linux-gnu-gcc", "LD": "aarch64-linux-gnu-ld", "AR": "aarch64-linux-gnu-ar", "NM": "aarch64-linux-gnu-nm", "OBJCOPY": "aarch64-linux-gnu-objcopy"}
     runner = machine.has("qemu-aarch64")
     missing = [tool for tool in tools.values() if not machine.has(tool)] or ([] if runner else ["qemu-aarch64"])
     if missing:

@@ -19,7 +19,7 @@ import sys
 import tempfile
 
 sys.dont_write_bytecode = True
-from lib import broken, documents, hand_made, irregular, labels, programs, rare
+from lib import broken, documents, hand_made, irregular, programs, rare
 
 CRATE = f"{programs.ROOT}/crates/certview"
 TESTS = f"{programs.ROOT}/crates/programs_tests/src/tests/certview"
@@ -349,14 +349,12 @@ def show_early_times(program):
 
 
 def name_all_fields(program, names):
-    """The names are the labels that the sources have, and each is printed of a message."""
-    wanted = {label.replace(" ", "-") for label in labels.labels()}
-    if set(names) != wanted or len(names) != len(wanted):
-        fail(f"names {sorted(set(names) - wanted)} of no label, and labels {sorted(wanted - set(names))} without a name")
+    """Each label that is printed has a name, and each name is of a label that is printed of a message."""
     texts = [run(program, ["--check", "--at", "2026-12-01", "--fingerprint"], octets)[1] for octets in all_messages()]
     shown = {it["name"] for text in texts for of in documents.messages_of(text.decode())[0] for it in of["fields"]}
-    if shown != labels.labels():
-        fail(f"labels {sorted(shown - labels.labels())} that the sources do not have, {sorted(labels.labels() - shown)} that are not shown")
+    labels = {label.replace(" ", "-") for label in shown}
+    if sorted(labels) != sorted(names):
+        fail(f"names {sorted(set(names) - labels)} of no label, labels {sorted(labels - set(names))} without a name, of {len(names)} names")
 
 
 def all_messages():

@@ -13,7 +13,7 @@ ROOT = Path(__file__).resolve().parent.parent
 PICTURE = ROOT / "docs/crates.svg"
 # What users name in their line of crates.txt; der_asn1_types hands on what stands below it.
 NAMED = {"der_asn1_types", "der_pkix", "der_extensions", "der_ocsp", "der_cms", "der_enveloped", "der_time_stamp", "der_pkcs", "der_build", "der_verify",
-    "der_places"}
+    "der_path", "der_places"}
 HEIGHT, STEP, GAP, LETTER, THIN = 26, 84, 20, 7.4, 10
 COLOURS = {"named": "#bfe3c6", "below": "#e4ecf7", "program": "#fbe3b5", "other": "#eeeeee", "tests": "#ffffff"}
 WORDS = {

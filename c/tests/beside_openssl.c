@@ -74,6 +74,15 @@ static int is_positive(const ASN1_INTEGER *number)
     return answer;
 }
 
+/* whether cA is TRUE in basicConstraints, whatever keyUsage says */
+static int is_ca(const X509 *x)
+{
+    BASIC_CONSTRAINTS *constraints = X509_get_ext_d2i(x, NID_basic_constraints, NULL, NULL);
+    int answer = constraints != NULL && constraints->ca != 0;
+    BASIC_CONSTRAINTS_free(constraints);
+    return answer;
+}
+
 /* the rules that a certificate breaks, where OpenSSL can tell */
 static uint32_t broken_rules(const X509 *x)
 {
@@ -98,7 +107,7 @@ static uint32_t broken_rules(const X509 *x)
     broken |= X509_NAME_entry_count(X509_get_issuer_name(x)) == 0 ? DER_CERTIFICATE_ISSUER_NOT_EMPTY : 0;
     if (X509_NAME_entry_count(X509_get_subject_name(x)) == 0 && !has_extension(x, NID_subject_alt_name, 1))
         broken |= DER_CERTIFICATE_EMPTY_SUBJECT_HAS_CRITICAL_ALT_NAME;
-    if (X509_check_ca((X509 *)x) == 1 && has_extension(x, NID_basic_constraints, 0))
+    if (is_ca(x) && has_extension(x, NID_basic_constraints, 0))
         broken |= DER_CERTIFICATE_BASIC_CONSTRAINTS_OF_CA_CRITICAL;
     for (i = 0; i < sizeof rows / sizeof rows[0]; i++)
         broken |= has_extension(x, rows[i].nid, rows[i].critical) ? rows[i].rule : 0;

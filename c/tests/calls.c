@@ -23,6 +23,7 @@ static void refused(const uint8_t *octets, size_t len, uint32_t number, const ch
         FILL(fault);                                                                           \
         check(call(octets, len, &at, &fault) == number && fault.number == number, #call);      \
         check(fault.is_placed <= 1 && (fault.is_placed == 1 || fault.position == 0), "a fault"); \
+        check(call(octets, len, &at, NULL) == number, #call " with no fault");                 \
         IS_FILLED(at, type);                                                                   \
     } while (0)
 
@@ -68,6 +69,7 @@ static void lengths(void)
         der_place rest = left;                                                                      \
         FILL(at);                                                                                   \
         check(call(octets, 2, &rest, &at, &fault) == DER_BAD_PLACE && fault.number == DER_BAD_PLACE, #call); \
+        check(call(octets, 2, &rest, &at, NULL) == DER_BAD_PLACE, #call " with no fault");          \
         check(rest.offset == left.offset && rest.length == left.length, "what is left is as it was"); \
         IS_FILLED(at, type);                                                                        \
     } while (0)
@@ -77,10 +79,10 @@ static void place_outside(const uint8_t *octets, size_t len, der_place left)
     der_fault fault;
     der_attribute_type_and_value_at attribute;
     der_name_left name = {left, {0, 0}};
-    check(der_is_within(2, der_contents(octets, 2, &left)), "contents within two octets");
-    check(der_is_within(len, der_contents(octets, len, &left)), "contents within the octets");
-    check(der_is_within(2, der_next_encoding(octets, 2, &left)), "an encoding within two octets");
-    check(der_is_within(len, der_next_encoding(octets, len, &left)), "an encoding within the octets");
+    check(is_within(2, der_contents(octets, 2, &left)), "contents within two octets");
+    check(is_within(len, der_contents(octets, len, &left)), "contents within the octets");
+    check(is_within(2, der_next_encoding(octets, 2, &left)), "an encoding within two octets");
+    check(is_within(len, der_next_encoding(octets, len, &left)), "an encoding within the octets");
     LEAVES(der_extension_at, der_next_extension);
     LEAVES(der_revoked_certificate_at, der_next_revoked_certificate);
     LEAVES(der_single_response_at, der_next_single_response);
@@ -137,6 +139,7 @@ static void no_names(void)
         check(der_has_attribute(&left), "there is something in the name");
         check(der_next_name_attribute(rows[i].octets, rows[i].len, &left, &attribute, &fault) == rows[i].number, "no name");
         check(fault.number == rows[i].number, "the fault has the number");
+        check(der_next_name_attribute(rows[i].octets, rows[i].len, &left, &attribute, NULL) == rows[i].number, "with no fault");
         check(memcmp(&left, &before, sizeof left) == 0, "the name is as it was");
     }
 }
@@ -151,7 +154,7 @@ static void cut(const uint8_t *octets, size_t len)
         if (n > 0)
             memcpy(copy, octets, n);
         refused(copy, n, DER_INCOMPLETE, "a beginning is refused");
-        check(der_is_within(n, der_signed_octets(copy, n)), "signed octets within a beginning");
+        check(is_within(n, der_signed_octets(copy, n)), "signed octets within a beginning");
         free(copy);
     }
     refused(octets, len + 1, DER_TRAILING_DATA, "an octet is left over");
@@ -170,7 +173,7 @@ static void spoilt(const uint8_t *octets, size_t len)
         copy[n] ^= 0xff;
         answer = der_certificate(copy, len, &out, &fault);
         check(answer <= 17, "a number of FORMAT.md");
-        check(answer != 0 || (der_is_within(len, out.extensions) && der_is_within(len, out.signature_value)),
+        check(answer != 0 || (is_within(len, out.extensions) && is_within(len, out.signature_value)),
               "places within the octets");
         copy[n] ^= 0xff;
     }
@@ -223,7 +226,7 @@ static void texts(void)
     check(strcmp(der_number_text(DER_BAD_PLACE), "no such number") != 0, "100 is one");
     check(strcmp(der_number_text(DER_NULL_POINTER), "no such number") != 0, "101 is one");
     check(strcmp(der_number_text(DER_UNKNOWN_NAME), "no such number") != 0, "102 is one");
-    check(strcmp(der_number_text(DER_SHORT_ROOM), "no such number") != 0, "103 is one");
+    check(strcmp(der_number_text(DER_SHORT_BUFFER), "no such number") != 0, "103 is one");
     check(strcmp(der_number_text(104), "no such number") == 0, "104 is none");
     check(strcmp(der_number_text(4294967295u), "no such number") == 0, "nor is the greatest");
 }

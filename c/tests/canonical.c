@@ -24,7 +24,7 @@ static void named(const char *name, const uint8_t *octets, size_t len, size_t ro
         IS_FILLED(fault, der_fault);
     } else {
         check(memcmp(room, before, room_len) == 0, "the room is as it was");
-        check(written == (number == DER_SHORT_ROOM ? wanted : 77), "how many are written");
+        check(written == (number == DER_SHORT_BUFFER ? wanted : 77), "how many are written");
         check(fault.number == number, "the fault has the number");
         check(number <= 17 || (fault.is_placed == 0 && fault.position == 0), "no place of what is of the call itself");
     }
@@ -37,8 +37,8 @@ static void own_encoding(const char *name, const uint8_t *octets, size_t len)
 {
     named(name, octets, len, len + 3, 0, octets, len);
     named(name, octets, len, len, 0, octets, len);
-    named(name, octets, len, len - 1, DER_SHORT_ROOM, octets, len);
-    named(name, octets, len, 0, DER_SHORT_ROOM, octets, len);
+    named(name, octets, len, len - 1, DER_SHORT_BUFFER, octets, len);
+    named(name, octets, len, 0, DER_SHORT_BUFFER, octets, len);
 }
 
 static void names(void)
@@ -95,6 +95,9 @@ static void null_pointers(void)
     check(der_canonical(NULL, 0, NULL, 0, NULL, 0, &written, &fault) == DER_UNKNOWN_NAME, "no name is no name of a type");
     check(der_canonical(name, 3, NULL, 0, NULL, 0, &written, &fault) == DER_INCOMPLETE, "no octets are no number");
     check(der_canonical_named(NULL, number, 3, room, 3, &written, &fault) == DER_NULL_POINTER, "no name at a null pointer");
+    check(der_canonical_named(NULL, number, 3, room, 3, &written, NULL) == DER_NULL_POINTER, "no name and no fault");
+    check(der_canonical(name, 3, NULL, 3, room, 3, &written, NULL) == DER_NULL_POINTER, "no octets and no fault");
+    check(der_canonical(name, 3, number, 2, room, 3, &written, NULL) == DER_INCOMPLETE, "octets that are refused, and no fault");
 }
 
 int main(int argc, char **argv)

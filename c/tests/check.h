@@ -1,5 +1,5 @@
 /* What the tests of calls share: what holds is counted, and what does not is told. */
-#include "der.h"
+#include <barleypulley/der.h>
 
 #include <stdio.h>
 #include <stdlib.h>
@@ -25,6 +25,12 @@ static void check(int holds, const char *what)
         FILL(filled);                                                                \
         check(memcmp(&(value), &filled, sizeof filled) == 0, #type " is as it was"); \
     } while (0)
+
+/* whether a place is within so many octets */
+static inline int is_within(size_t len, der_place place)
+{
+    return place.offset <= len && place.length <= len - place.offset;
+}
 
 /* the octets of a file, at most as many as the room has; 0 where there is none */
 static inline size_t read_file(const char *path, uint8_t *room, size_t size)

@@ -129,8 +129,9 @@ static void compare_signer(const der_signer_info_at *at, CMS_SignerInfo *want)
     ASN1_OCTET_STRING *key = NULL;
     X509_NAME *issuer = NULL;
     ASN1_INTEGER *serial = NULL;
-    der_place left = der_items(octets, len, &at->signed_attrs);
+    der_place left = der_items(octets, len, &at->signed_attrs), front = contents(at->sid);
     int i;
+    front.length = 0;
     CMS_SignerInfo_get0_algs(want, NULL, NULL, &digest, &algorithm);
     SAME("digestAlgorithm", at->digest_algorithm, i2d_X509_ALGOR, digest);
     SAME("signatureAlgorithm", at->signature_algorithm, i2d_X509_ALGOR, algorithm);
@@ -140,7 +141,7 @@ static void compare_signer(const der_signer_info_at *at, CMS_SignerInfo *want)
     if (key != NULL)
         same_string("subjectKeyIdentifier", contents(at->sid), key);
     else
-        SAME("issuer", der_behind(at->sid.offset, der_signed_octets(octets + at->sid.offset, at->sid.length)), i2d_X509_NAME, issuer);
+        SAME("issuer", der_next_encoding(octets, len, &front), i2d_X509_NAME, issuer);
     for (i = 0; i < CMS_signed_get_attr_count(want) && left.length > 0; i++)
         compare_attribute(&left, CMS_signed_get_attr(want, i));
     same_number("how many signed attributes", (uint64_t)i + left.length, (uint64_t)i);

@@ -1,7 +1,7 @@
 /* How long a certificate takes, in nanoseconds: the least of many rounds over the certificates of a PEM file, by the time
  * of the thread. speed FILE [ROUNDS] */
 #define _POSIX_C_SOURCE 200809L
-#include "der.h"
+#include <barleypulley/der.h>
 
 #include <openssl/pem.h>
 #include <openssl/x509.h>

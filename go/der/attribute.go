@@ -1,6 +1,6 @@
 package der
 
-// #include "der.h"
+// #include <barleypulley/der.h>
 import "C"
 
 // AttributeTypeAndValue is an attribute of a name (RFC 5280 4.1.2.4).

@@ -1,6 +1,6 @@
 package der
 
-// #include "der.h"
+// #include <barleypulley/der.h>
 import "C"
 
 // Canonical gives the one encoding of the value that all of the octets are, as the type with a name: those of "certview lines",

@@ -2,7 +2,6 @@ package der
 
 import (
 	"bytes"
-	"crypto/x509"
 	"encoding/hex"
 	"errors"
 	"testing"
@@ -41,14 +40,15 @@ func TestCanonical(t *testing.T) {
 }
 
 func TestRulesBesideX509(t *testing.T) {
-	for _, octets := range blocks(t, "CERTIFICATE") {
+	certificates, wanted := certificates(t)
+	for at, one := range certificates {
+		octets, want := one.Octets(), wanted[at]
 		found, err := Canonical("cert", octets)
 		if err != nil {
 			t.Fatal(err)
 		}
 		same(t, "the encoding", found, octets)
-		want, err := x509.ParseCertificate(octets)
-		if err != nil {
+		if want == nil {
 			continue
 		}
 		broken, err := CheckRFC5280(octets)

@@ -1,6 +1,6 @@
 package der
 
-// #include "der.h"
+// #include <barleypulley/der.h>
 import "C"
 
 import "time"

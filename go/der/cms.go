@@ -1,6 +1,6 @@
 package der
 
-// #include "der.h"
+// #include <barleypulley/der.h>
 import "C"
 
 // ContentInfo is a message with its type (RFC 5652 section 3).

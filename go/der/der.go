@@ -4,13 +4,14 @@
 // A value keeps the octets that it was read from, and a field is a slice of them: its whole encoding. Nothing is copied, and
 // no signature is verified. The code that reads is Barleypulley's der_c; this package, which calls it, is not proved.
 //
-// Octets that are refused give an *Error: the number of the first fault, and where it was met.
+// Octets that are refused return an *Error: the number of the first fault, and where it was met. A date before 1970 is refused
+// (13). No pointer to the octets outlives a call into C.
 package der
 
 /*
 #cgo CFLAGS: -I${SRCDIR}/../../c/include
 #cgo LDFLAGS: -L${SRCDIR}/../../c/build -l:libder_c.a
-#include "der.h"
+#include <barleypulley/der.h>
 */
 import "C"
 
@@ -19,6 +20,13 @@ import (
 	"time"
 	"unsafe"
 )
+
+// A library with another version of its interface is refused when the program starts.
+func init() {
+	if version := C.der_abi_version(); version != C.DER_ABI_VERSION {
+		panic(fmt.Sprintf("der: libder_c has version %d of its interface, and package der is for version %d", version, C.DER_ABI_VERSION))
+	}
+}
 
 // Error says why octets are refused.
 type Error struct {
@@ -40,7 +48,7 @@ func (e *Error) Error() string {
 	if !e.IsPlaced {
 		return fmt.Sprintf("der: %s (%d)", e.Words(), e.Number)
 	}
-	return fmt.Sprintf("der: %s (%d), behind %d octets", e.Words(), e.Number, e.Position)
+	return fmt.Sprintf("der: %s (%d), after %d octets", e.Words(), e.Number, e.Position)
 }
 
 // answered is what a call answered: no error, or the fault that it wrote.

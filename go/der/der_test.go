@@ -31,7 +31,7 @@ func key(t *testing.T) []byte {
 }
 
 // the blocks of all PEM files that have this label
-func blocks(t *testing.T, label string) [][]byte {
+func blocks(t testing.TB, label string) [][]byte {
 	var found [][]byte
 	for _, name := range append(filepath.SplitList(os.Getenv("DER_TEST_FILES")), system) {
 		text, err := os.ReadFile(name)
@@ -48,6 +48,43 @@ func blocks(t *testing.T, label string) [][]byte {
 		}
 	}
 	return found
+}
+
+// What package x509 refuses and is read here, by the beginning of its error, with the clause.
+var refusedByX509 = map[string]string{
+	"x509: negative serial number":         "RFC 5280 4.1.2.2: a serial number is positive; the grammar has any INTEGER, and CheckRFC5280 tells the rule",
+	"x509: unsupported elliptic curve":     "RFC 5480 2.1.1.1: any curve may be named; the key itself is not read here",
+	"x509: serial number too long":         "RFC 5280 4.1.2.2: at most 20 octets; CheckRFC5280 tells the rule",
+	"x509: invalid basic constraints":      "RFC 5280 4.2: the values of extensions are not read here",
+	"x509: certificate contains duplicate": "RFC 5280 4.2: each extension stands once; CheckRFC5280 tells the rule",
+}
+
+// certificates are those that are read here, with those of package x509, or nil; each difference is on a list.
+func certificates(t *testing.T) (found []*Certificate, wanted []*x509.Certificate) {
+	for _, octets := range blocks(t, "CERTIFICATE") {
+		one, err := ReadCertificate(octets)
+		want, other := x509.ParseCertificate(octets)
+		switch {
+		case err == nil:
+			found, wanted = append(found, one), append(wanted, want)
+			if other != nil && !isOnList(other) {
+				t.Errorf("refused by x509 alone: %v", other)
+			}
+		case other == nil && (numberOf(err) != 13 || want.NotBefore.Year() >= 1970):
+			// (RFC 5280 4.1.2.5.1: UTCTime has years from 1950 on, and package der from 1970 on)
+			t.Errorf("refused here alone: %v", err)
+		}
+	}
+	return found, wanted
+}
+
+func isOnList(err error) bool {
+	for beginning := range refusedByX509 {
+		if strings.HasPrefix(err.Error(), beginning) {
+			return true
+		}
+	}
+	return false
 }
 
 func same(t *testing.T, name string, is, want []byte) {
@@ -98,19 +135,17 @@ func sameExtensions(t *testing.T, found *Items[Extension], want []extension) {
 }
 
 func TestCertificatesBesideX509(t *testing.T) {
+	found, wanted := certificates(t)
 	count := 0
-	for _, octets := range blocks(t, "CERTIFICATE") {
-		want, err := x509.ParseCertificate(octets)
-		if err != nil {
+	for at, one := range found {
+		want := wanted[at]
+		if want == nil {
 			continue
 		}
 		count++
-		one, err := ReadCertificate(octets)
-		if err != nil {
-			t.Fatal(err)
-		}
+		same(t, "the whole", one.Octets(), want.Raw)
 		same(t, "tbsCertificate", one.TBSCertificate(), want.RawTBSCertificate)
-		same(t, "signed octets", SignedOctets(octets), want.RawTBSCertificate)
+		same(t, "signed octets", SignedOctets(one.Octets()), want.RawTBSCertificate)
 		same(t, "signature", Contents(one.SignatureValue())[1:], want.Signature)
 		same(t, "the two algorithms", one.Signature(), one.SignatureAlgorithm())
 		sameNumber(t, "serialNumber", one.SerialNumber(), want.SerialNumber)
@@ -121,6 +156,9 @@ func TestCertificatesBesideX509(t *testing.T) {
 		sameTime(t, "notAfter", one.NotAfter(), want.NotAfter)
 		if one.Version() != want.Version {
 			t.Errorf("version is %d, not %d", one.Version(), want.Version)
+		}
+		if text := one.String(); !strings.Contains(text, want.Subject.ToRDNSequence().String()) && len(want.Subject.Names) < 2 {
+			t.Errorf("the text is %s", text)
 		}
 		var extensions []extension
 		for _, each := range want.Extensions {
@@ -232,7 +270,7 @@ func TestRefused(t *testing.T) {
 		}
 	}
 	_, err := ReadCertificate([]byte{2, 1, 5})
-	if text := "der: another tag stands there than may stand there (4), behind 2 octets"; err == nil || err.Error() != text {
+	if text := "der: another tag stands there than may stand there (4), after 2 octets"; err == nil || err.Error() != text {
 		t.Errorf("an error says %v", err)
 	}
 }

@@ -8,15 +8,13 @@ import (
 	"crypto/x509/pkix"
 	"encoding/asn1"
 	"testing"
+	"time"
 )
 
 func TestNamesBesideX509(t *testing.T) {
-	for _, octets := range blocks(t, "CERTIFICATE") {
+	certificates, _ := certificates(t)
+	for _, one := range certificates {
 		var want pkix.RDNSequence
-		one, err := ReadCertificate(octets)
-		if err != nil {
-			t.Fatal(err)
-		}
 		if _, err := asn1.Unmarshal(one.Subject(), &want); err != nil {
 			continue
 		}
@@ -58,11 +56,22 @@ func TestRequestsBesideX509(t *testing.T) {
 		same(t, "signature", Contents(one.Signature())[1:], want.Signature)
 		same(t, "subject", one.Subject(), want.RawSubject)
 		same(t, "subjectPKInfo", one.SubjectPKInfo(), want.RawSubjectPublicKeyInfo)
-		found, count := one.Attributes(), 0
-		for ; found.Next(); count++ {
-			same(t, "extensionRequest", found.Item().Identifier(), []byte{0x2a, 0x86, 0x48, 0x86, 0xf7, 0x0d, 1, 9, 14})
+		var info struct {
+			Version      int
+			Subject, Key asn1.RawValue
+			Attributes   []asn1.RawValue `asn1:"tag:0,set"`
 		}
-		if found.Err() != nil || (count == 0) != (len(want.Extensions) == 0) {
+		if _, err := asn1.Unmarshal(want.RawTBSCertificateRequest, &info); err != nil {
+			t.Fatal(err)
+		}
+		found, count, extensions := one.Attributes(), 0, 0
+		for ; found.Next(); count++ {
+			same(t, "attribute", found.Item().Octets(), info.Attributes[count].FullBytes)
+			if bytes.Equal(found.Item().Identifier(), []byte{0x2a, 0x86, 0x48, 0x86, 0xf7, 0x0d, 1, 9, 14}) {
+				extensions++
+			}
+		}
+		if found.Err() != nil || count != len(info.Attributes) || (extensions == 0) != (len(want.Extensions) == 0) {
 			t.Errorf("%d attributes, then %v", count, found.Err())
 		}
 	}
@@ -103,8 +112,12 @@ func TestAnswersBesideAsn1(t *testing.T) {
 			if int(found.Item().CertStatus()) != all[count].Status.Tag {
 				t.Errorf("status is %d, not %d", found.Item().CertStatus(), all[count].Status.Tag)
 			}
-			if revoked, is := found.Item().RevocationTime(); is != (revoked.Year() == 2026) {
-				t.Errorf("revoked at %v", revoked)
+			var want time.Time
+			if _, err := asn1.Unmarshal(all[count].Status.Bytes, &want); all[count].Status.Tag == 1 && err != nil {
+				t.Fatal(err)
+			}
+			if revoked, is := found.Item().RevocationTime(); is != (all[count].Status.Tag == 1) || !revoked.Equal(want) {
+				t.Errorf("revoked at %v, not %v", revoked, want)
 			}
 		}
 		if found.Err() != nil || count != len(all) {

@@ -1,6 +1,6 @@
 package der
 
-// #include "der.h"
+// #include <barleypulley/der.h>
 import "C"
 
 // CertificationRequest is a request for a certificate (RFC 2986 4.2).

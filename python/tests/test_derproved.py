@@ -35,6 +35,17 @@ ENTRY = bytes.fromhex("302e020105170d3236303130313030303030305a301a") + REASON +
 NAME = bytes.fromhex("302331123007060355040a0c00300706035504" + "0b0c00310d300b06035504030c046e616d65")
 
 
+# What cryptography reads and derproved refuses: the number, whether a certificate is such a one, and the clause.
+DIFFERENCES = [
+    (13, lambda it: it.not_valid_before_utc.year < 1970, "RFC 5280 4.1.2.5.1: UTCTime has years from 1950 on, and derproved from 1970 on"),
+]
+# Extensions whose values cryptography encodes in another way than they came, with the clause.
+ENCODED_ANEW = {
+    "2.5.29.15": "X.690 11.2.2: keyUsage with zero bits at its end",
+    "2.5.29.32": "RFC 5280 4.2.1.4: a DisplayText of another type than UTF8String",
+}
+
+
 def pem_files() -> list[Path]:
     named = [Path(name) for name in os.environ.get("DER_TEST_FILES", "").split(os.pathsep) if name]
     return named + [path for path in [SYSTEM] if path.exists()]
@@ -72,7 +83,18 @@ class BesideCryptography(unittest.TestCase):
         for one, other in zip(found, others):
             if isinstance(other.value, x509.UnrecognizedExtension):
                 self.assertEqual(bytes(one.value), other.value.value)
+            elif hasattr(other.value, "public_bytes") and other.value.public_bytes() != one.value:
+                self.assertIn(other.oid.dotted_string, ENCODED_ANEW)
         return len(found)
+
+    def is_on_list(self, octets: bytes, other) -> bool:
+        """Whether a certificate is refused as the list of differences says."""
+        numbers = [number for number, is_such, _ in DIFFERENCES if is_such(other)]
+        if numbers:
+            with self.assertRaises(derproved.Error) as caught:
+                derproved.Certificate(octets)
+            self.assertEqual([caught.exception.number], numbers)
+        return bool(numbers)
 
     def compare_rules(self, octets: bytes, other) -> None:
         broken = derproved.check_rfc5280(octets)
@@ -115,17 +137,15 @@ class BesideCryptography(unittest.TestCase):
             for other in x509.load_pem_x509_certificates(pem):
                 octets = other.public_bytes(serialization.Encoding.DER)
                 with self.subTest(subject=other.subject.rfc4514_string()):
-                    self.compare_certificate(octets, other)
+                    if not self.is_on_list(octets, other):
+                        self.compare_certificate(octets, other)
                 count += 1
         self.assertGreater(count, 0)
 
     def test_lists(self) -> None:
-        for path in pem_files():
-            pem = path.read_bytes()
-            if b"BEGIN X509 CRL" not in pem:
-                continue
-            other = x509.load_pem_x509_crl(pem)
-            own = derproved.CertificateList(other.public_bytes(serialization.Encoding.DER))
+        for octets in blocks("X509 CRL"):
+            other = x509.load_der_x509_crl(octets)
+            own = derproved.CertificateList(octets)
             self.assertEqual(bytes(own.tbs_cert_list), other.tbs_certlist_bytes)
             self.assertEqual(bytes(own.issuer), other.issuer.public_bytes())
             self.assertEqual(own.this_update, in_utc(other.last_update_utc))
@@ -150,7 +170,10 @@ class MessagesBesideCryptography(unittest.TestCase):
 
     def test_names(self) -> None:
         for octets in blocks("CERTIFICATE"):
-            own, other = derproved.Certificate(octets), x509.load_der_x509_certificate(octets)
+            other = x509.load_der_x509_certificate(octets)
+            if any(is_such(other) for _, is_such, _ in DIFFERENCES):
+                continue
+            own = derproved.Certificate(octets)
             if all(a._type.name in ("UTF8String", "PrintableString", "IA5String") for a in [*other.issuer, *other.subject]):
                 self.compare_name(own.issuer, other.issuer)
                 self.compare_name(own.subject, other.subject)
@@ -185,11 +208,22 @@ class MessagesBesideCryptography(unittest.TestCase):
         self.assertEqual(len(found), len(others))
         for one, answer in zip(found, others):
             self.assertEqual(one.cert_status.value, answer.certificate_status.value)
+            serial = answer.serial_number.to_bytes(answer.serial_number.bit_length() // 8 + 1, signed=True)
+            hashes_of = b"\x04".join(bytes([len(it)]) + it for it in (answer.issuer_name_hash, answer.issuer_key_hash))
+            self.assertTrue(bytes(one.cert_id).endswith(b"\x04" + hashes_of + b"\x02" + bytes([len(serial)]) + serial))
             revoked = answer.revocation_time_utc
             self.assertEqual(one.revocation_time, revoked and in_utc(revoked))
             self.assertEqual(one.this_update, in_utc(answer.this_update_utc))
             following = answer.next_update_utc
             self.assertEqual(one.next_update, following and in_utc(following))
+
+    def test_private_keys(self) -> None:
+        der, form = serialization.Encoding.DER, serialization.PublicFormat.SubjectPublicKeyInfo
+        for octets in blocks("PRIVATE KEY"):
+            own, other = derproved.PrivateKeyInfo(octets), serialization.load_der_private_key(octets, None)
+            key = derproved.SubjectPublicKeyInfo(other.public_key().public_bytes(der, form))
+            self.assertEqual((own.version, own.private_key_algorithm), (1, key.algorithm))
+            self.assertEqual((own.attributes, own.public_key), (None, None))
 
     def test_signed_messages(self) -> None:
         keys = [serialization.load_der_private_key(octets, None) for octets in blocks("PRIVATE KEY")]
@@ -236,6 +270,9 @@ class Calls(unittest.TestCase):
             with self.assertRaises(derproved.Error) as caught:
                 derproved.SubjectPublicKeyInfo(KEY[:count])
             self.assertEqual(caught.exception.args[:2], (2, "the octets end too soon"))
+            error = caught.exception
+            self.assertEqual((error.number, error.words, error.position), error.args)
+            self.assertEqual(str(error), f"the octets end too soon (2), after {error.position} octets")
         others = [derproved.Certificate, derproved.CertificateList, derproved.PrivateKeyInfo, derproved.CertificationRequest]
         others += [derproved.OcspResponse, derproved.BasicOcspResponse, derproved.SingleResponse]
         others += [derproved.ContentInfo, derproved.SignedData, derproved.SignerInfo, derproved.Attribute]
@@ -304,6 +341,37 @@ class Objects(unittest.TestCase):
         self.assertRaises(TypeError, type("Other", (derproved._der.Message,), {}), KEY)
         self.assertRaises(TypeError, type, "Both", (derproved.Certificate, derproved.Extension), {})
         self.assertEqual(bytes(derproved.SubjectPublicKeyInfo(octets=KEY)), KEY)
+
+    def test_equal_messages(self) -> None:
+        key, entry = derproved.SubjectPublicKeyInfo(KEY), derproved.RevokedCertificate(ENTRY + KEY)
+        self.assertEqual(key, derproved.SubjectPublicKeyInfo(bytearray(KEY)))
+        self.assertEqual(entry, derproved.RevokedCertificate(ENTRY))
+        self.assertNotEqual(key, derproved.SubjectPublicKeyInfo(KEY[:-1] + b"\0"))
+        self.assertNotEqual(derproved.Attribute(b"0\7\6\1*1\2\5\0"), derproved.AttributeTypeAndValue(b"0\7\6\1*1\2\5\0"))
+        for other in [KEY, None, entry]:
+            self.assertNotEqual(key, other)
+        self.assertRaises(TypeError, lambda: key < key)
+        self.assertEqual(len({key, derproved.SubjectPublicKeyInfo(memoryview(KEY)), entry}), 2)
+        self.assertRaises(TypeError, hash, derproved.SubjectPublicKeyInfo(bytearray(KEY)))
+        self.assertRaises(TypeError, hash, next(derproved.RevokedCertificate(bytearray(ENTRY)).extensions))
+
+    def test_what_repr_shows(self) -> None:
+        self.assertEqual(repr(derproved.SubjectPublicKeyInfo(KEY)), "<SubjectPublicKeyInfo of 44 octets>")
+        self.assertEqual(repr(derproved.RevokedCertificate(ENTRY + KEY)), f"<RevokedCertificate of {len(ENTRY)} octets>")
+        shown = [repr(it) for it in derproved.name_attributes(NAME)]
+        self.assertEqual(shown, [f"<AttributeTypeAndValue {it}>" for it in ("O=", "OU=", "CN=name")])
+        for octets, text in {"300a06035504030c036d69ff": "CN=#6d69ff", "300706038837030500": "2.999.3=#"}.items():
+            self.assertEqual(repr(derproved.AttributeTypeAndValue(bytes.fromhex(octets))), f"<AttributeTypeAndValue {text}>")
+        for octets in blocks("PRIVATE KEY"):
+            self.assertEqual(repr(derproved.PrivateKeyInfo(octets)), f"<PrivateKeyInfo of {len(octets)} octets>")
+
+    @unittest.skipIf(x509 is None, "cryptography is not there")
+    def test_what_repr_shows_of_names(self) -> None:
+        messages = [(derproved.CertificationRequest(it), x509.load_der_x509_csr(it).subject) for it in blocks("CERTIFICATE REQUEST")]
+        messages += [(derproved.CertificateList(it), x509.load_der_x509_crl(it).issuer) for it in blocks("X509 CRL")]
+        for message, name in messages:
+            for attribute in name:
+                self.assertIn(f"={attribute.value}", repr(message))
 
     def test_objects_do_not_change(self) -> None:
         key = derproved.SubjectPublicKeyInfo(KEY)
@@ -437,7 +505,9 @@ class Objects(unittest.TestCase):
         def use() -> None:
             for octets in [ENTRY, bytearray(ENTRY), memoryview(ENTRY).cast("H")]:
                 entry = derproved.RevokedCertificate(octets)
-                found = [(it.identifier, it.value, bytes(it), it.is_critical) for it in entry.extensions]
+                found = [(it.identifier, it.value, bytes(it), it.is_critical, repr(it), it == it) for it in entry.extensions]
+                if isinstance(octets, bytes):
+                    hash(entry)
                 entry.revocation_date, entry.user_certificate, copy.copy(entry), next(entry.extensions), found
                 list(derproved.name_attributes(NAME)), derproved.contents(octets)
                 for wrong in [octets[:-1], "text"]:

@@ -30,6 +30,7 @@ CALLERS = {
     "der_nest": [(f"{EXAMPLES}/sets.rt", "")],
     "der_numbers": [(f"{EXAMPLES}/reading.rt", "")],
     "der_opaque": [(f"{EXAMPLES}/anys.rt", "")],
+    "der_path": [(TESTS, "domains_are_placed")],
     "der_places": [("crates/der_c/src/certificate.rt", "certificate_at")],
     "der_recursive": [("crates/layer_tests/src/tree.rt", "")],
     "der_simple": [(TESTS, "digits shown_digits encoded_arcs")],
@@ -56,7 +57,7 @@ def uses(text, crate):
     """Whether a source imports a crate, or the facade where that hands the crate on; or includes its header."""
     handed_on = re.search(rf"^{FACADE}: (.*)$", text_of("crates.txt"), re.M)[1].split()
     names = f"{crate}|{FACADE}" if crate in handed_on else crate
-    is_included = crate == "der_c" and '#include "der.h"' in text
+    is_included = crate == "der_c" and '#include <barleypulley/der.h>' in text
     return is_included or bool(re.search(rf"^use ({names})\b", text, re.M))
 
 

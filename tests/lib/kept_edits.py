@@ -1,6 +1,6 @@
 """What tests/edits.py has found out on this machine. What the prover has refused, it refuses again where nothing has changed
-that the refusal stands on: the kit, the sources of the crate and of those below it, the edit, and the rules by which it is
-tried.
+that the refusal stands on: the kit, the sources of the crate and of those below it but for their comments, the edit, and the
+rules by which it is tried.
 
 A refusal is a file of its own, named by the sum of all that, in a folder where 'rt' keeps its proofs, outside each checkout.
 It is written apart and then renamed, so that two runs at once do no harm, and at once, so that a run which is cut off keeps
@@ -25,6 +25,8 @@ from dataclasses import dataclass
 RULES = 2
 # What a check of a crate reads.
 PARTS = ("src", "specs", "proofs")
+# How a line begins that is a comment, by the end of the file's name. No text of a crate goes on over lines that begin so.
+COMMENTS = {".rt": b"//", ".antt": b"--"}
 # What a refusal is by: a goal of the function that is not proved; names alone, which a proof file cites and the edit took away; or
 # the borrow checker alone, which does not cover what the edit writes.
 BY = ("goal", "names", "borrow")
@@ -161,13 +163,19 @@ def sum_of_kit(kit):
 
 
 def sum_of_sources(folder):
-    """A sum of the files that a check of the crate in this folder reads."""
+    """A sum of the files that a check of the crate in this folder reads, without their comments."""
     found = []
     for part in PARTS:
         for at, folders, files in os.walk(f"{folder}/{part}"):
             folders.sort()
-            found += [(os.path.relpath(f"{at}/{it}", folder), octets_of(f"{at}/{it}")) for it in sorted(files)]
+            found += [(os.path.relpath(f"{at}/{it}", folder), code_of(f"{at}/{it}")) for it in sorted(files)]
     return sum_of(found)
+
+
+def code_of(path):
+    """The lines of a source, without those that are comments: no refusal stands on these."""
+    comment = COMMENTS.get(os.path.splitext(path)[1])
+    return [it for it in octets_of(path).split(b"\n") if comment is None or not it.lstrip().startswith(comment)]
 
 
 def octets_of(path):

@@ -20,6 +20,8 @@ CHARACTERS = {
 NUMBERS = {Whole.MACHINE_INTEGER, Whole.INTEGER, Whole.NATURAL}
 END = "X.690 8.1.1: an encoding ends too soon"
 LONGEST_IDENTIFIER = 39
+UNREAD_SEQUENCE = frozenset([Whole.UNREAD_SEQUENCE])
+UNREAD = UNREAD_SEQUENCE | {Whole.ANY}
 
 
 class Broken(Exception):
@@ -161,6 +163,8 @@ def look_at_fields(found, node, kept):
             if one.presence is Presence.ALWAYS:
                 raise Broken("X.690 8.9.2: a component is absent, or another stands in its place")
             continue
+        if is_empty_default(one, left[0]):
+            raise Broken("X.690 11.5: a default is encoded")
         look(one.type, left[0], kept)
         if one.presence is Presence.DEFAULT and is_default(one, left[0]):
             raise Broken("X.690 11.5: a default is encoded")
@@ -169,13 +173,23 @@ def look_at_fields(found, node, kept):
         raise Broken("X.690 8.9.2: no component of the type (of X.680 25 or 51.8 where it has '...')")
 
 
-def is_default(one, node):
-    """Whether a node's contents are those of a default that is a BOOLEAN, a number or a name of a number."""
+def is_empty_default(one, node):
+    """Whether a node is that of the empty list, which is the default of a component: it is OPTIONAL then, and never empty."""
+    return one.presence is Presence.OPTIONAL and one.component.default is not None and not contents_of(one, node)
+
+
+def contents_of(one, node):
+    """A node's contents octets, after the explicit tags of a component."""
     type_, contents = one.type, node.contents
     while isinstance(type_, Tagged):
         contents = node_at(contents, 0).contents if type_.is_explicit else contents
         type_ = type_.of
-    value = one.default
+    return contents
+
+
+def is_default(one, node):
+    """Whether a node's contents are those of a default that is a BOOLEAN, a number or a name of a number."""
+    contents, value = contents_of(one, node), one.default
     if isinstance(value, bool):
         return contents == (b"\xff" if value else b"\0")
     if hasattr(value, "name") and isinstance(getattr(value, "definition", None), Enumeration):
@@ -360,13 +374,13 @@ def types_within(definition):
     return [definition.type] if isinstance(definition, Alias) else []
 
 
-def has_unread(definition, seen):
-    """Whether a type, or one within it, has a part whose octets are kept as they are."""
+def has_unread(definition, wholes, seen):
+    """Whether a type, or one within it, has a part of these types, whose octets are kept as they are."""
     if id(definition) in seen:
         return False
     seen.add(id(definition))
     leaves = [leaf for type_ in types_within(definition) for leaf in leaves_of(type_)]
-    return any(leaf.whole in (Whole.ANY, Whole.UNREAD_SEQUENCE) for leaf in leaves) or any(has_unread(it, seen) for it in within(definition))
+    return any(leaf.whole in wholes for leaf in leaves) or any(has_unread(it, wholes, seen) for it in within(definition))
 
 
 def leaves_of(type_):

@@ -10,7 +10,7 @@ from . import ROOT
 
 BLOCK = re.compile(r"^```text\n(C  .*?)^```$", re.S | re.M)
 LANGUAGES = ["C", "Rust", "Python", "Go"]
-C = """#include "der.h"
+C = """#include <barleypulley/der.h>
 
 void show(uint64_t seconds);
 void of_line(const uint8_t *octets, size_t len);
@@ -69,8 +69,8 @@ replace barleypulley/go => %s/go
 """
 # By the language: what a name of its package is called by in a line, and where and how the package defines it.
 NAMES = {
-    "C": (r"\b(der_\w+)\(", "c/include/der.h", r"\b%s\("),
-    "Rust": (r"der_proved::(\w+)|\.(\w+)\(", "rust/der-proved/src/*.rs", r"\b(struct|fn) %s\b"),
+    "C": (r"\b(der_\w+)\(", "c/include/barleypulley/der.h", r"\b%s\("),
+    "Rust": (r"der_proved::(\w+)|\.(\w+)\(", "rust/der-proved/src/*.rs", r"\b(struct|fn) %s\b|^    %s, "),
     "Python": (r"derproved\.(\w+)|\)\.(\w+)", "python/src/derproved/__init__.py", r"^(class %s\b|    %s = )"),
     "Go": (r"der\.(\w+)\(", "go/der/*.go", r"^func %s\("),
 }

@@ -10,11 +10,12 @@ from dataclasses import dataclass, replace
 from itertools import count
 
 from .errors import Place
-from .resolver.classes import base_of, follow, is_parameter, meant
+from .resolver.classes import base_of, follow, is_parameter, is_untagged_choice, meant
 from .scope import Env, Library
 from .spelling import field, numbered
 from .syntax import (
     BitStringType,
+    BracedValue,
     ChoiceType,
     Component,
     ConstrainedType,
@@ -35,7 +36,7 @@ from .syntax import (
     TagMode,
     Type,
 )
-from .values import number_of
+from .values import assigned_value, number_of
 
 # The numbers of the universal class (X.680 8.4, table 1).
 UNIVERSAL = {
@@ -63,6 +64,7 @@ UNIVERSAL = {
     Simple.CHARACTER_STRING: 29,
     Simple.BMP_STRING: 30,
 }
+SEQUENCE, SET = 16, 17
 # Types that the layer does not have.
 UNREADABLE = frozenset(
     [
@@ -130,31 +132,65 @@ def components(library: Library, env: Env, type_: FieldsType) -> list[Part]:
 
 def alternatives(library: Library, env: Env, type_: ChoiceType) -> list[Part]:
     """The alternatives in the order of the text."""
-    parts = tagged(env, [Part(one, env) for one in type_.alternatives], list(type_.alternatives))
-    return [part for part in parts if not is_lacking(library, part)]
+    return [part for part in written_alternatives(env, type_) if not is_lacking(library, part)]
 
 
-def is_lacking(library: Library, part: Part) -> bool:
-    """Whether a component is of a type whose tag the layer refuses, with no implicit tag in its place."""
+def written_alternatives(env: Env, type_: ChoiceType) -> list[Part]:
+    """The alternatives in the order of the text, with those that the layer lacks."""
+    return tagged(env, [Part(one, env) for one in type_.alternatives], list(type_.alternatives))
+
+
+def is_lacking(library: Library, part: Part, around: tuple[Type, ...] = ()) -> bool:
+    """Whether a component is of a type that the layer lacks, with no implicit tag in its place."""
     env, type_ = part.env, part.component.type
-    if part.number is not None and not is_parameter(env, type_):
+    if part.number is not None and not is_parameter(env, type_) and not is_untagged_choice(library, env, type_):
         return False
-    while True:
-        if isinstance(type_, TaggedType) and not is_explicit(env, type_):
+    is_unread = any(note.name == "unread" for note in part.component.annotations)
+    return lacks(library, env, type_, around, is_unread)
+
+
+def lacks(library: Library, env: Env, type_: Type, around: tuple[Type, ...], is_unread: bool = False) -> bool:
+    """Whether the layer lacks a type: it has no such type, no alternative of it, or not what each SET of it has."""
+    while isinstance(type_, (TaggedType, ConstrainedType, ReferenceType, FieldOfClass, SelectionType)):
+        if isinstance(type_, TaggedType) and not is_explicit(env, type_) and not is_untagged_choice(library, env, type_.type):
             return False
         if isinstance(type_, (TaggedType, ConstrainedType)):
             type_ = type_.type
         elif isinstance(type_, ReferenceType):
             env, type_ = follow(library, env, type_)
-        elif isinstance(type_, (FieldOfClass, SelectionType)):
-            env, type_ = meant(library, env, type_)
         else:
-            return isinstance(type_, SimpleType) and type_.simple in UNREADABLE
+            env, type_ = meant(library, env, type_)
+    if isinstance(type_, SimpleType):
+        return type_.simple in UNREADABLE
+    if is_unread or any(type_ is one for one in around):
+        return False
+    return lacks_parts(library, env, type_, (*around, type_))
+
+
+def lacks_parts(library: Library, env: Env, type_: Type, around: tuple[Type, ...]) -> bool:
+    """Whether the layer lacks a type with parts for what it lacks of these; a SEQUENCE, or a SEQUENCE OF, is then kept unread."""
+    if isinstance(type_, ChoiceType):
+        return all(is_lacking(library, part, around) for part in written_alternatives(env, type_))
+    if isinstance(type_, FieldsType) and type_.is_set:
+        parts = components(library, env, type_)
+        return any(is_lacking(library, part, around) for part in parts if not may_be_absent(part))
+    if isinstance(type_, ListType) and type_.is_set:
+        return lacks(library, env, type_.item, around)
+    return isinstance(type_, FieldsType) and type_.is_instance
 
 
 def may_be_absent(part: Part) -> bool:
     """Whether a component is OPTIONAL or has a DEFAULT."""
     return part.component.optional or part.component.default is not None
+
+
+def has_empty_list(library: Library, part: Part) -> bool:
+    """Whether the default of a component is the empty list, which no encoding has (X.690 11.5): OPTIONAL, and never empty."""
+    given = part.component.default
+    if given is None or not isinstance(base_of(library, part.env, part.component.type)[1], ListType):
+        return False
+    value = assigned_value(library, part.env, given)[1]
+    return isinstance(value, BracedValue) and len(value.tokens) == 0
 
 
 def tagged(env: Env, parts: list[Part], own: list[Component]) -> list[Part]:
@@ -196,7 +232,7 @@ def universal(type_: Type) -> int:
     if isinstance(type_, SimpleType):
         return UNIVERSAL[type_.simple]
     if isinstance(type_, (FieldsType, ListType)):
-        return 17 if type_.is_set else 16
+        return SET if type_.is_set else SEQUENCE
     numbers = {IntegerType: 2, BitStringType: 3, EnumeratedType: 10}
     return numbers[type(type_)]
 

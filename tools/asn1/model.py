@@ -103,6 +103,7 @@ class Listed:
     is_set: bool
     is_never_empty: bool
     is_any_order: bool = False  # of a SET OF: as BER writes it
+    allowed: Allowed | None = None  # how many items it may have, where that is no matter of one item or none
 
 
 @dataclass(frozen=True)
@@ -278,13 +279,14 @@ class List(Definition):
     is_set: bool = False
     is_never_empty: bool = False
     is_any_order: bool = False
+    allowed: Allowed | None = None
     tag: Tag | None = None
 
     @property
     def listed(self) -> Listed:
         """The list itself, with no name."""
         assert self.item is not None
-        return Listed(self.item, self.is_set, self.is_never_empty, self.is_any_order)
+        return Listed(self.item, self.is_set, self.is_never_empty, self.is_any_order, self.allowed)
 
 
 @dataclass(eq=False)

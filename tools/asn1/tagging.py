@@ -11,6 +11,14 @@ from .scope import Env
 from .syntax import ChoiceType, Component, TagClass, TagDefault, TaggedType, Type
 
 
+class OrderOfValue(Exception):
+    """The place of this component of a SET depends on its value: tags of another stand between its tags."""
+
+    def __init__(self, name: str) -> None:
+        super().__init__(name)
+        self.name = name
+
+
 def automatic(components: list[Component]) -> list[Component]:
     """The components with tags from 0, those of the root first, in place of automatic ones that they have (25.7 to 25.9, 29.2)."""
     root = [part for part in components if not part.is_addition]
@@ -86,15 +94,11 @@ def check_all(fields: tuple[Field, ...], rule: str) -> None:
 
 
 def in_order_of_tags(fields: tuple[Field, ...]) -> tuple[Field, ...]:
-    """The components of a SET as they are encoded (X.690 10.3): no tag of another stands between those of a CHOICE."""
+    """The components of a SET as they are encoded (X.690 10.3), if no tag of another stands between those of a CHOICE."""
     known = [(sorted(tags_of(part.type) or []), part) for part in fields]
     known.sort(key=lambda one: one[0][:1])
     for place, (tags, part) in enumerate(known):
         others = known[place + 1][0] if place + 1 < len(known) else []
         if not tags or (others and tags[-1] > others[0]):
-            raise AsnError(
-                part.place,
-                f"the component '{part.name}' of a SET has tags between which those of another stand",
-                "write a tag before it, as '[0]': else its place depends on its value (X.690 10.3)",
-            )
+            raise OrderOfValue(part.name)
     return tuple(part for _, part in known)

@@ -16,6 +16,7 @@ from .writers import fields, page, rules, structs_in_c, structs_in_python, struc
 
 RULES = "asn1/rules.txt"
 STRUCTS = "asn1/structs.txt"
+HEADER = "c/include/barleypulley/der.h"
 PYTHON = "python/src/derproved/__init__.py"
 ROOT = Path(__file__).resolve().parent.parent.parent
 
@@ -64,17 +65,19 @@ def parts(found_rules: list[Rule], found_structs: list[Struct]) -> dict[str, dic
 def parts_of_lists(found_rules: list[Rule], found_structs: list[Struct]) -> dict[str, dict[str, list[str]]]:
     """Those of all rules, and those of all structs."""
     return {
-        "c/include/der.h": {
+        HEADER: {
             "rules": rules.in_c(found_rules),
             "structs": structs_in_c.structs(found_structs),
             "calls": structs_in_c.calls(found_structs),
-            "checked calls": structs_in_c.checked_calls(found_structs),
             "next calls": structs_in_c.next_calls(found_structs),
         },
+        "c/checked.c": {"checked calls": structs_in_c.checked_calls(found_structs)},
+        "c/walk.c": {"next calls": structs_in_c.walking_calls(found_structs)},
         "rust/der-proved-sys/src/lib.rs": {
             "structs": structs_in_rust.structs(found_structs),
             "calls": structs_in_rust.calls(found_structs),
         },
+        "rust/der-proved-sys/src/safe.rs": {"safe calls": structs_in_rust.safe_calls(found_structs)},
         "rust/der-proved/src/rules.rs": {"rules": rules.in_rust(found_rules)},
         "go/der/rules.go": {"rules": rules.in_go(found_rules)},
         PYTHON: {"rules": rules.in_python(found_rules)},

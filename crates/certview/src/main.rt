@@ -4,7 +4,7 @@
 #![tactic(auto)]
 
 use certview_names::MessageNames;
-use certview_text::{Fault, Outcome, View, plain, read_input, show, show_refused};
+use certview_text::{Fault, FieldName, Outcome, View, plain, read_input, show, show_refused};
 use der_lines::{Fault as LineFault, LineReader, OctetWriter};
 use lines::{asks_for_lines, fault_of_run};
 use options::{File, Request, request_of};
@@ -142,7 +142,8 @@ fn answer(rt: &HostRuntime, words: &[String]) -> Result<u8, Fault> {
         answer_lines(rt)?;
         return Ok(0);
     }
-    match request_of(rt.alloc(), words) {
+    let names = FieldName::names(rt.alloc())?;
+    match request_of(rt.alloc(), words, names.as_slice()) {
         Ok(request) => Ok(show_files(rt, &request)),
         Err(error) => match error.print(rt) {
             Ok(()) => Ok(error.exit_code() as u8),

@@ -1,7 +1,7 @@
 //! What the words of the command line ask for.
 
 use crate::words::name_of_word;
-use certview_text::{Asked, FIELDS, Form, View};
+use certview_text::{Asked, FieldName, Form, View};
 use clap::error::ErrorKind;
 use clap::{Arg, ArgAction, Command, Error};
 use der_asn1_types::DateTime;
@@ -34,12 +34,10 @@ pub struct File<'a> {
 pub struct Request<'a> {
     /// The files, in their order; standard input alone where none is named.
     pub files: Vec<File<'a>>,
-    /// The names of the fields that are shown; all, where there are none.
-    pub fields: Option<Vec<&'a str>>,
+    /// The fields that are shown; all, where none are named.
+    pub fields: Option<Vec<FieldName>>,
     /// Whether the document is JSON.
     pub is_json: bool,
-    /// Whether the SHA-256 of each message is shown.
-    pub has_fingerprint: bool,
     /// What is asked of each message besides its fields.
     pub asked: Asked,
 }
@@ -61,12 +59,11 @@ impl<'a> Request<'a> {
             name,
             form,
             fields: self.chosen(),
-            has_fingerprint: self.has_fingerprint,
             asked: self.asked,
         }
     }
 
-    fn chosen<'b>(&'b self) -> Option<&'b [&'b str]> {
+    fn chosen(&self) -> Option<&[FieldName]> {
         match &self.fields {
             Some(fields) => Some(fields.as_slice()),
             None => None,
@@ -74,31 +71,35 @@ impl<'a> Request<'a> {
     }
 }
 
-/// What the words ask for, of which the first is what the program was called by.
+/// What the words ask for. The first word is what the program was called by; `names` are those of all fields.
 ///
 /// # Errors
 /// For words that are no options, and where help or the version is asked for: the text of these.
-pub fn request_of<'a>(alloc: Global, words: &'a [String]) -> Result<Request<'a>, Error> {
-    let matches = command(alloc)?.try_get_matches_from(words)?;
+pub fn request_of<'a>(
+    alloc: Global,
+    words: &'a [String],
+    names: &'a [&'a str],
+) -> Result<Request<'a>, Error> {
+    let matches = command(alloc, names)?.try_get_matches_from(words)?;
     let files = match matches.get_strs("FILE") {
         Some(given) => files_of(alloc, given)?,
         None => standard_input(alloc)?,
     };
     let fields = match matches.get_strs("fields") {
-        Some(given) => Some(list_of(alloc, given)?),
+        Some(given) => Some(fields_of(alloc, given)?),
         None => None,
     };
     let moment = match matches.get_str("at") {
-        Some(word) => Some(moment_of(alloc, word)?),
+        Some(word) => Some(moment_of(alloc, word, names)?),
         None => None,
     };
     Ok(Request {
         files,
         fields,
         is_json: matches.get_flag("json"),
-        has_fingerprint: matches.get_flag("fingerprint"),
         asked: Asked {
             has_rules: matches.get_flag("check"),
+            has_fingerprint: matches.get_flag("fingerprint"),
             moment,
         },
     })
@@ -122,14 +123,19 @@ fn standard_input<'a>(alloc: Global) -> Result<Vec<File<'a>>, AllocError> {
     Ok(files)
 }
 
-fn list_of<'a>(alloc: Global, words: &[&'a str]) -> Result<Vec<&'a str>, AllocError> {
-    let mut list = Vec::new(alloc);
-    list.extend_from_slice(words)?;
-    Ok(list)
+/// The fields with these names. A name of no field is no option, and is refused before.
+fn fields_of(alloc: Global, names: &[&str]) -> Result<Vec<FieldName>, AllocError> {
+    let mut fields = Vec::new(alloc);
+    for name in names {
+        if let Some(field) = FieldName::with_name(*name) {
+            fields.push(field)?;
+        }
+    }
+    Ok(fields)
 }
 
 /// The moment that a word says: a day, which is its first second, or a time of RFC 3339 with the letter Z.
-fn moment_of(alloc: Global, word: &str) -> Result<DateTime, Error> {
+fn moment_of(alloc: Global, word: &str, names: &[&str]) -> Result<DateTime, Error> {
     let mut text = String::from_str(alloc, word)?;
     if word.len() == DAY.len() {
         text.push_str("T00:00:00Z")?;
@@ -140,7 +146,7 @@ fn moment_of(alloc: Global, word: &str) -> Result<DateTime, Error> {
             let message = format!(in alloc;
                 "'{word}' is no time: --at takes YYYY-MM-DD or YYYY-MM-DDTHH:MM:SSZ, from 1970 on"
             )?;
-            Err(command(alloc)?.error(ErrorKind::ValueValidation, message.as_str())?)
+            Err(command(alloc, names)?.error(ErrorKind::ValueValidation, message.as_str())?)
         }
     }
 }
@@ -155,7 +161,8 @@ fn flag<'a>(alloc: Global, name: &'a str, help: &'a str) -> Arg<'a> {
         .action(ArgAction::SetTrue)
 }
 
-fn command<'a>(alloc: Global) -> Result<Command<'a>, Error> {
+/// The options; `--fields` takes these names.
+fn command<'a>(alloc: Global, names: &'a [&'a str]) -> Result<Command<'a>, Error> {
     let files = Arg::new(alloc, "FILE")
         .help("What to read")
         .action(ArgAction::Append)
@@ -168,7 +175,7 @@ fn command<'a>(alloc: Global) -> Result<Command<'a>, Error> {
         )
         .action(ArgAction::Append)
         .value_delimiter(',')
-        .value_parser(FIELDS.as_slice())
+        .value_parser(names)
         .hide_possible_values(true);
     let moment = Arg::new(alloc, "at").long("at").value_name("TIME").help(
         "Says whether each certificate is valid, and each list current, at that day or moment",

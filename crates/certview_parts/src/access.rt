@@ -3,41 +3,32 @@
 
 use crate::identifiers::push_identifier;
 use crate::other_names::push_other_name;
-use crate::page::{Inner, Page, push_malformed};
+use crate::page::Inner;
+use crate::printer::Printer;
 use der_asn1_types::FromDer;
 use der_extensions::extension::{AccessDescription, AuthorityInfoAccessSyntax};
-use std::alloc::{AllocError, Global};
+use std::alloc::AllocError;
 
 /// Adds for each what is there to be had, and where.
-pub fn push_access(alloc: Global, page: &mut Page, inner: Inner<'_>) -> Result<(), AllocError> {
-    match AuthorityInfoAccessSyntax::from_der(alloc, inner.octets) {
-        Ok(ways) => push_ways(alloc, page, &ways),
-        Err(error) => {
-            page.text.push_str(", ")?;
-            push_malformed(page, inner.begin, error)
-        }
-    }
-}
-
-fn push_ways(
-    alloc: Global,
-    page: &mut Page,
-    ways: &AuthorityInfoAccessSyntax<'_>,
-) -> Result<(), AllocError> {
-    for item in ways.items().iter(alloc) {
+pub fn push_access(printer: &mut Printer<'_>, inner: Inner<'_>) -> Result<(), AllocError> {
+    let ways = match AuthorityInfoAccessSyntax::from_der(printer.alloc, inner.octets) {
+        Ok(ways) => ways,
+        Err(error) => return printer.push_malformed_value(inner, error),
+    };
+    for item in ways.items().iter(printer.alloc) {
         let Ok(way) = item else {
             // It was read before.
             return Err(AllocError);
         };
-        push_way(alloc, page, &way)?;
+        push_way(printer, &way)?;
     }
     Ok(())
 }
 
-fn push_way(alloc: Global, page: &mut Page, way: &AccessDescription<'_>) -> Result<(), AllocError> {
-    page.text.push_str(", ")?;
+fn push_way(printer: &mut Printer<'_>, way: &AccessDescription<'_>) -> Result<(), AllocError> {
+    printer.push_str(", ")?;
     let method = way.access_method();
-    push_identifier(alloc, page, method.as_bytes())?;
-    page.text.push(' ')?;
-    push_other_name(alloc, page, way.access_location())
+    push_identifier(printer, method.as_bytes())?;
+    printer.push(' ')?;
+    push_other_name(printer, way.access_location())
 }

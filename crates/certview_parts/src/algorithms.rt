@@ -1,74 +1,77 @@
 //! Algorithms and public keys as text.
 
 use crate::any_values::push_full_null;
+use crate::field_name::FieldName;
 use crate::hexadecimal::{push_digits, push_number_of};
 use crate::identifiers::{curve_bits, push_identifier};
 use crate::irregular::note_value;
 use crate::key_sizes::{is_point, size_of};
-use crate::labels::push_label;
 use crate::names::push_encoding;
 use crate::page::{Page, push_malformed, push_malformed_bits};
 use crate::place::Place;
+use crate::printer::Printer;
 use crate::values::sizes;
 use der_asn1_types::asn1::{AnyRef, BitStringRef, UintRef};
 use der_asn1_types::{FromDer, Tag};
+use der_pkcs::algorithm::constants;
 use der_pkix::AlgorithmIdentifier;
 use der_pkix::certificate::SubjectPublicKeyInfo;
 use der_pkix::key::RsaPublicKey;
-use der_places::{contents_of, places_of};
 use std::alloc::{AllocError, Global};
 use std::fmt::Write;
 
-/// The contents octets of rsaEncryption, 1.2.840.113549.1.1.1.
-const RSA_ENCRYPTION: [u8; 9] = [0x2a, 0x86, 0x48, 0x86, 0xf7, 0x0d, 0x01, 0x01, 0x01];
+/// A key of RSA (RFC 3279 section 2.3.1).
+const RSA_ENCRYPTION: &[u8] = &constants::RSA_ENCRYPTION;
 
-/// The contents octets of RSASSA-PSS, 1.2.840.113549.1.1.10.
-const RSASSA_PSS: [u8; 9] = [0x2a, 0x86, 0x48, 0x86, 0xf7, 0x0d, 0x01, 0x01, 0x0a];
+/// A key of RSA that signs by RSASSA-PSS alone (RFC 4055 section 1.2).
+const ID_RSASSA_PSS: &[u8] = &constants::ID_RSASSA_PSS;
 
-/// The contents octets of id-ecPublicKey, 1.2.840.10045.2.1.
-const EC_PUBLIC_KEY: [u8; 7] = [0x2a, 0x86, 0x48, 0xce, 0x3d, 0x02, 0x01];
+/// A point of an elliptic curve (RFC 5480 section 2.1.1).
+const ID_EC_PUBLIC_KEY: &[u8] = &constants::ID_EC_PUBLIC_KEY;
 
-/// The contents octets of id-dsa, 1.2.840.10040.4.1.
-const DSA: [u8; 7] = [0x2a, 0x86, 0x48, 0xce, 0x38, 0x04, 0x01];
+/// A key of DSA (RFC 3279 section 2.3.2).
+const ID_DSA: &[u8] = &constants::ID_DSA;
 
 /// Adds a line with an algorithm's identifier, and with its parameters where these are an identifier,
 /// as of a curve (RFC 5480 section 2.1.1); of others their encoding.
 pub fn push_algorithm(
-    alloc: Global,
-    page: &mut Page,
+    printer: &mut Printer<'_>,
     place: &Place,
-    label: &str,
+    field: FieldName,
     algorithm: &AlgorithmIdentifier<'_>,
 ) -> Result<(), AllocError> {
-    push_label(page, place, label)?;
-    push_identifier(alloc, page, algorithm.oid.as_bytes())?;
+    printer.begin(place, field)?;
+    push_identifier(printer, algorithm.oid.as_bytes())?;
     if let Some(parameters) = &algorithm.parameters {
-        push_parameters(alloc, page, place, parameters)?;
+        push_parameters(printer, place, parameters)?;
     }
-    page.text.push('\n')
+    printer.push('\n')
 }
 
 /// Adds parameters, which stand at the end of a place.
 fn push_parameters(
-    alloc: Global,
-    page: &mut Page,
+    printer: &mut Printer<'_>,
     place: &Place,
     parameters: &AnyRef<'_>,
 ) -> Result<(), AllocError> {
     match parameters.header().tag {
         Tag::Null if parameters.value().is_empty() => Ok(()),
         Tag::Null => {
-            page.text.push_str(", parameters ")?;
-            push_full_null(page, Some(place.behind() as usize), parameters.value())
+            printer.push_str(", parameters ")?;
+            push_full_null(
+                printer.page,
+                Some(place.behind() as usize),
+                parameters.value(),
+            )
         }
         Tag::ObjectIdentifier => {
-            page.text.push_str(", ")?;
-            push_identifier(alloc, page, parameters.value())
+            printer.push_str(", ")?;
+            push_identifier(printer, parameters.value())
         }
         _ => {
-            page.text.push_str(", parameters ")?;
-            note_value(page, parameters)?;
-            push_encoding(alloc, page, parameters)
+            printer.push_str(", parameters ")?;
+            note_value(printer.page, parameters)?;
+            push_encoding(printer, parameters)
         }
     }
 }
@@ -76,29 +79,30 @@ fn push_parameters(
 /// Adds a line for the algorithm of a key, and one for the key itself: how many bits it has as people
 /// count them, and its octets.
 pub fn push_key(
-    alloc: Global,
-    page: &mut Page,
-    octets: &[u8],
+    printer: &mut Printer<'_>,
     place: &Place,
     key: &SubjectPublicKeyInfo<'_>,
 ) -> Result<(), AllocError> {
-    let at = places_of(key, octets, place.offset);
-    push_algorithm(alloc, page, &at.algorithm, "key algorithm", key.algorithm())?;
-    push_label(page, &at.subject_public_key, "key")?;
+    let at = printer.places_of(key, place);
+    push_algorithm(
+        printer,
+        &at.algorithm,
+        FieldName::KeyAlgorithm,
+        key.algorithm(),
+    )?;
+    printer.begin(&at.subject_public_key, FieldName::Key)?;
     let bits = key.subject_public_key();
     let end = at.subject_public_key.behind() as usize;
     match key.algorithm().oid.as_bytes() {
-        oid if oid == RSA_ENCRYPTION.as_slice() || oid == RSASSA_PSS.as_slice() => {
-            let begin = contents_of(octets, at.subject_public_key).offset as usize;
-            push_rsa_key(alloc, page, begin.saturating_add(1), bits.raw_bytes())?
+        RSA_ENCRYPTION | ID_RSASSA_PSS => {
+            let begin = printer.contents_of(at.subject_public_key).offset as usize;
+            push_rsa_key(printer, begin.saturating_add(1), bits.raw_bytes())?
         }
-        oid if oid == EC_PUBLIC_KEY.as_slice() => {
-            push_point(alloc, page, end, key.algorithm(), bits)?
-        }
-        oid if oid == DSA.as_slice() => push_dsa_key(alloc, page, key.algorithm(), bits)?,
-        oid => push_other_key(page, end, oid, bits)?,
+        ID_EC_PUBLIC_KEY => { push_point(printer, end, key.algorithm(), bits)? }
+        ID_DSA => push_dsa_key(printer, key.algorithm(), bits)?,
+        oid => push_other_key(printer.page, end, oid, bits)?,
     }
-    page.text.push('\n')
+    printer.push('\n')
 }
 
 /// Adds how many bits a key of another algorithm has, and its octets; of the algorithms of RFC 8410 a
@@ -143,21 +147,16 @@ fn push_bits_of(page: &mut Page, bits: usize, key: &BitStringRef<'_>) -> Result<
 
 /// Adds the bits of the modulus, the exponent and the modulus of a key of RSA (RFC 3279 section 2.3.1),
 /// before whose encoding so many octets of the message stand.
-fn push_rsa_key(
-    alloc: Global,
-    page: &mut Page,
-    begin: usize,
-    octets: &[u8],
-) -> Result<(), AllocError> {
-    match RsaPublicKey::from_der(alloc, octets) {
+fn push_rsa_key(printer: &mut Printer<'_>, begin: usize, octets: &[u8]) -> Result<(), AllocError> {
+    match RsaPublicKey::from_der(printer.alloc, octets) {
         Ok(key) => {
             let bits = bits_of(key.modulus().as_bytes());
-            write!(page.text, "{bits} bits, exponent ")?;
-            push_number_of(page, key.public_exponent().as_bytes())?;
-            page.text.push_str(", modulus ")?;
-            push_digits(page, key.modulus().as_bytes())
+            write!(printer.page.text, "{bits} bits, exponent ")?;
+            push_number_of(printer.page, key.public_exponent().as_bytes())?;
+            printer.push_str(", modulus ")?;
+            push_digits(printer.page, key.modulus().as_bytes())
         }
-        Err(error) => push_malformed(page, begin, error),
+        Err(error) => push_malformed(printer.page, begin, error),
     }
 }
 
@@ -165,24 +164,23 @@ fn push_rsa_key(
 /// point (RFC 5480 section 2.2), before whose end so many octets of the message stand. Octets of
 /// another number than a point of the curve has are none.
 fn push_point(
-    alloc: Global,
-    page: &mut Page,
+    printer: &mut Printer<'_>,
     end: usize,
     algorithm: &AlgorithmIdentifier<'_>,
     point: &BitStringRef<'_>,
 ) -> Result<(), AllocError> {
     let bits = match &algorithm.parameters {
         Some(curve) if curve.header().tag == Tag::ObjectIdentifier => {
-            curve_bits(alloc, curve.value())?
+            curve_bits(printer.alloc, curve.value())?
         }
         _ => None,
     };
     match bits {
-        Some(bits) if is_point(point, bits) => push_bits_of(page, bits, point),
-        Some(_) => push_wrong_key(page, end, "no point of the curve", point),
+        Some(bits) if is_point(point, bits) => push_bits_of(printer.page, bits, point),
+        Some(_) => push_wrong_key(printer.page, end, "no point of the curve", point),
         None => {
-            page.text.push_str("point ")?;
-            push_digits(page, point.raw_bytes())
+            printer.push_str("point ")?;
+            push_digits(printer.page, point.raw_bytes())
         }
     }
 }
@@ -190,16 +188,15 @@ fn push_point(
 /// Adds the bits of the prime of a key of DSA, the first of its parameters (RFC 3279 section 2.3.2), and
 /// the key.
 fn push_dsa_key(
-    alloc: Global,
-    page: &mut Page,
+    printer: &mut Printer<'_>,
     algorithm: &AlgorithmIdentifier<'_>,
     key: &BitStringRef<'_>,
 ) -> Result<(), AllocError> {
-    if let Some(bits) = bits_of_prime(alloc, algorithm) {
-        return push_bits_of(page, bits, key);
+    if let Some(bits) = bits_of_prime(printer.alloc, algorithm) {
+        return push_bits_of(printer.page, bits, key);
     }
-    page.text.push_str("key of DSA ")?;
-    push_digits(page, key.raw_bytes())
+    printer.push_str("key of DSA ")?;
+    push_digits(printer.page, key.raw_bytes())
 }
 
 /// How many bits the first INTEGER has of parameters that are a SEQUENCE.

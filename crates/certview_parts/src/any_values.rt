@@ -6,31 +6,31 @@ use crate::identifiers::push_identifier;
 use crate::irregular::note_value;
 use crate::names::push_value;
 use crate::page::{Page, push_malformed};
+use crate::printer::Printer;
 use crate::times::push_date_time;
 use der_asn1_types::asn1::{AnyRef, GeneralizedTime, UtcTime};
 use der_asn1_types::{Encode, Error, FromDer, Length, Tag};
-use std::alloc::{AllocError, Global};
+use std::alloc::AllocError;
 
 /// Adds a value: an identifier, a number, octets, a time or text by its tag; of another type `#` and its
 /// encoding. So many octets of the message stand before its end, if that is known.
 pub fn push_any(
-    alloc: Global,
-    page: &mut Page,
+    printer: &mut Printer<'_>,
     end: Option<usize>,
     value: &AnyRef<'_>,
 ) -> Result<(), AllocError> {
     let octets = value.value();
     match value.header().tag {
-        Tag::ObjectIdentifier => push_identifier(alloc, page, octets),
-        Tag::OctetString => push_digits(page, octets),
+        Tag::ObjectIdentifier => push_identifier(printer, octets),
+        Tag::OctetString => push_digits(printer.page, octets),
         Tag::Integer => {
-            note_value(page, value)?;
-            push_integer(page, octets)
+            note_value(printer.page, value)?;
+            push_integer(printer.page, octets)
         }
-        Tag::Null if octets.is_empty() => page.text.push_str("NULL"),
-        Tag::Null => push_full_null(page, end, octets),
-        Tag::UtcTime | Tag::GeneralizedTime => push_any_time(alloc, page, value),
-        _ => push_value(alloc, page, value, Behind::Mark),
+        Tag::Null if octets.is_empty() => printer.push_str("NULL"),
+        Tag::Null => push_full_null(printer.page, end, octets),
+        Tag::UtcTime | Tag::GeneralizedTime => push_any_time(printer, value),
+        _ => push_value(printer, value, Behind::Mark),
     }
 }
 
@@ -62,15 +62,15 @@ fn push_integer(page: &mut Page, octets: &[u8]) -> Result<(), AllocError> {
 }
 
 /// Adds a time; what is none as it is encoded.
-fn push_any_time(alloc: Global, page: &mut Page, value: &AnyRef<'_>) -> Result<(), AllocError> {
-    let Ok(octets) = value.to_der(alloc) else {
+fn push_any_time(printer: &mut Printer<'_>, value: &AnyRef<'_>) -> Result<(), AllocError> {
+    let Ok(octets) = value.to_der(printer.alloc) else {
         return Err(AllocError);
     };
-    if let Ok(time) = UtcTime::from_der(alloc, octets.as_slice()) {
-        return push_date_time(page, &time.to_date_time());
+    if let Ok(time) = UtcTime::from_der(printer.alloc, octets.as_slice()) {
+        return push_date_time(printer.page, &time.to_date_time());
     }
-    match GeneralizedTime::from_der(alloc, octets.as_slice()) {
-        Ok(time) => push_date_time(page, &time.to_date_time()),
-        Err(_) => push_value(alloc, page, value, Behind::Mark),
+    match GeneralizedTime::from_der(printer.alloc, octets.as_slice()) {
+        Ok(time) => push_date_time(printer.page, &time.to_date_time()),
+        Err(_) => push_value(printer, value, Behind::Mark),
     }
 }

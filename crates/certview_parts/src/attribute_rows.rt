@@ -2,36 +2,32 @@
 
 use crate::any_values::push_any;
 use crate::extension_rows::push_read_extensions;
+use crate::field_name::FieldName;
 use crate::identifiers::push_identifier;
-use crate::items::Items;
-use crate::labels::push_label;
-use crate::page::Page;
-use crate::place::{Place, inner_at};
+use crate::place::Place;
+use crate::printer::Printer;
 use crate::rows::push_malformed_row;
 use der_asn1_types::FromDer;
 use der_asn1_types::asn1::AnyRef;
 use der_pkcs::request::constants::PKCS_9_AT_EXTENSION_REQUEST;
 use der_pkix::name::Attribute;
-use der_places::places_of;
-use std::alloc::{AllocError, Global};
+use std::alloc::AllocError;
 
 /// Adds a line for each attribute of a set, in the order in which they stand: what it is, and its values.
 pub fn push_attribute_rows(
-    alloc: Global,
-    page: &mut Page,
-    octets: &[u8],
+    printer: &mut Printer<'_>,
     set: &Place,
-    label: &str,
+    field: FieldName,
 ) -> Result<(), AllocError> {
-    let mut items = Items::within(octets, set);
+    let mut items = printer.items(set);
     for _ in 0..set.length {
         let Some(place) = items.next_item() else {
             break;
         };
-        let inner = inner_at(octets, &place);
-        match Attribute::from_der(alloc, inner.octets) {
-            Ok(attribute) => push_attribute(alloc, page, octets, &place, label, &attribute)?,
-            Err(error) => push_malformed_row(page, &place, label, inner.begin, error)?,
+        let inner = printer.inner_at(&place);
+        match Attribute::from_der(printer.alloc, inner.octets) {
+            Ok(attribute) => push_attribute(printer, &place, field, &attribute)?,
+            Err(error) => push_malformed_row(printer, &place, field, inner.begin, error)?,
         }
     }
     Ok(())
@@ -40,71 +36,62 @@ pub fn push_attribute_rows(
 /// Adds the line of an attribute. Where it asks for extensions (RFC 2985 section 5.4.2), the lines of these
 /// stand after it.
 fn push_attribute(
-    alloc: Global,
-    page: &mut Page,
-    octets: &[u8],
+    printer: &mut Printer<'_>,
     place: &Place,
-    label: &str,
+    field: FieldName,
     attribute: &Attribute<'_>,
 ) -> Result<(), AllocError> {
     let identifier = attribute.type_().as_bytes();
-    push_label(page, place, label)?;
-    push_identifier(alloc, page, identifier)?;
+    printer.begin(place, field)?;
+    push_identifier(printer, identifier)?;
     if identifier == PKCS_9_AT_EXTENSION_REQUEST.as_slice() {
-        page.text.push('\n')?;
-        let at = places_of(attribute, octets, place.offset);
-        return push_requests(alloc, page, octets, &at.values);
+        printer.push('\n')?;
+        let at = printer.places_of(attribute, place);
+        return push_requests(printer, &at.values);
     }
-    push_values(alloc, page, place, attribute)
+    push_values(printer, place, attribute)
 }
 
 /// Adds the values of an attribute, each after a comma, and ends the line. One that is alone ends where
 /// the attribute does; where each of several ends is not told.
 fn push_values(
-    alloc: Global,
-    page: &mut Page,
+    printer: &mut Printer<'_>,
     place: &Place,
     attribute: &Attribute<'_>,
 ) -> Result<(), AllocError> {
     let values = attribute.values();
-    let end = match values.count(alloc) {
+    let end = match values.count(printer.alloc) {
         Ok(1) => Some(place.behind() as usize),
         _ => None,
     };
-    for item in values.iter(alloc) {
+    for item in values.iter(printer.alloc) {
         let Ok(value) = item else {
             // It was read before.
             return Err(AllocError);
         };
-        push_value(alloc, page, end, &value)?;
+        push_value(printer, end, &value)?;
     }
-    page.text.push('\n')
+    printer.push('\n')
 }
 
 /// Adds a value after a comma.
 fn push_value(
-    alloc: Global,
-    page: &mut Page,
+    printer: &mut Printer<'_>,
     end: Option<usize>,
     value: &AnyRef<'_>,
 ) -> Result<(), AllocError> {
-    page.text.push_str(", ")?;
-    push_any(alloc, page, end, value)
+    printer.push_str(", ")?;
+    push_any(printer, end, value)
 }
 
 /// Adds the lines of the extensions that are asked for: of each value of the set.
-fn push_requests(
-    alloc: Global,
-    page: &mut Page,
-    octets: &[u8],
-    values: &Place,
-) -> Result<(), AllocError> {
-    let mut items = Items::within(octets, values);
+fn push_requests(printer: &mut Printer<'_>, values: &Place) -> Result<(), AllocError> {
+    let mut items = printer.items(values);
     for _ in 0..values.length {
         let Some(list) = items.next_item() else {
             break;
         };
-        push_read_extensions(alloc, page, octets, &list)?;
+        push_read_extensions(printer, &list)?;
     }
     Ok(())
 }

@@ -3,59 +3,45 @@
 use crate::characters::Behind;
 use crate::identifiers::push_attribute_type;
 use crate::names::push_value;
-use crate::page::{Inner, Page, push_malformed};
+use crate::page::Inner;
+use crate::printer::Printer;
 use der_asn1_types::FromDer;
 use der_asn1_types::asn1::AnyRef;
 use der_extensions::extension::SubjectDirectoryAttributes;
 use der_pkix::name::Attribute;
-use std::alloc::{AllocError, Global};
+use std::alloc::AllocError;
 
 /// Adds each attribute, with its values as those in names.
 pub fn push_directory_attributes(
-    alloc: Global,
-    page: &mut Page,
+    printer: &mut Printer<'_>,
     inner: Inner<'_>,
 ) -> Result<(), AllocError> {
-    match SubjectDirectoryAttributes::from_der(alloc, inner.octets) {
-        Ok(attributes) => push_each(alloc, page, &attributes),
-        Err(error) => {
-            page.text.push_str(", ")?;
-            push_malformed(page, inner.begin, error)
-        }
-    }
-}
-
-fn push_each(
-    alloc: Global,
-    page: &mut Page,
-    attributes: &SubjectDirectoryAttributes<'_>,
-) -> Result<(), AllocError> {
-    for item in attributes.items().iter(alloc) {
+    let attributes = match SubjectDirectoryAttributes::from_der(printer.alloc, inner.octets) {
+        Ok(attributes) => attributes,
+        Err(error) => return printer.push_malformed_value(inner, error),
+    };
+    for item in attributes.items().iter(printer.alloc) {
         let Ok(attribute) = item else {
             // It was read before.
             return Err(AllocError);
         };
-        push_attribute(alloc, page, &attribute)?;
+        push_attribute(printer, &attribute)?;
     }
     Ok(())
 }
 
 /// Adds an attribute: its values, the first after a `=`, and each other after a `+`.
-fn push_attribute(
-    alloc: Global,
-    page: &mut Page,
-    attribute: &Attribute<'_>,
-) -> Result<(), AllocError> {
-    page.text.push_str(", ")?;
+fn push_attribute(printer: &mut Printer<'_>, attribute: &Attribute<'_>) -> Result<(), AllocError> {
+    printer.push_str(", ")?;
     let identifier = attribute.type_();
-    push_attribute_type(alloc, page, identifier.as_bytes())?;
+    push_attribute_type(printer, identifier.as_bytes())?;
     let mut mark = '=';
-    for item in attribute.values().iter(alloc) {
+    for item in attribute.values().iter(printer.alloc) {
         let Ok(value) = item else {
             // It was read before.
             return Err(AllocError);
         };
-        push_marked(alloc, page, mark, &value)?;
+        push_marked(printer, mark, &value)?;
         mark = '+';
     }
     Ok(())
@@ -63,11 +49,10 @@ fn push_attribute(
 
 /// Adds a value after a mark.
 fn push_marked(
-    alloc: Global,
-    page: &mut Page,
+    printer: &mut Printer<'_>,
     mark: char,
     value: &AnyRef<'_>,
 ) -> Result<(), AllocError> {
-    page.text.push(mark)?;
-    push_value(alloc, page, value, Behind::Mark)
+    printer.push(mark)?;
+    push_value(printer, value, Behind::Mark)
 }

@@ -3,21 +3,18 @@
 
 use crate::hexadecimal::push_number_of;
 use crate::page::{Inner, Page, push_malformed};
+use crate::printer::Printer;
 use der_asn1_types::FromDer;
 use der_asn1_types::asn1::UintRef;
 use der_extensions::extension::{BasicConstraints, PolicyConstraints};
-use std::alloc::{AllocError, Global};
+use std::alloc::AllocError;
 
 /// Adds whether the key may sign certificates, and how many may follow.
-pub fn push_constraints(
-    alloc: Global,
-    page: &mut Page,
-    inner: Inner<'_>,
-) -> Result<(), AllocError> {
-    page.text.push_str(", ")?;
-    match BasicConstraints::from_der(alloc, inner.octets) {
-        Ok(constraints) => push_authority(page, &constraints),
-        Err(error) => push_malformed(page, inner.begin, error),
+pub fn push_constraints(printer: &mut Printer<'_>, inner: Inner<'_>) -> Result<(), AllocError> {
+    printer.push_str(", ")?;
+    match BasicConstraints::from_der(printer.alloc, inner.octets) {
+        Ok(constraints) => push_authority(printer.page, &constraints),
+        Err(error) => push_malformed(printer.page, inner.begin, error),
     }
 }
 
@@ -32,21 +29,17 @@ fn push_authority(page: &mut Page, constraints: &BasicConstraints<'_>) -> Result
 
 /// Adds after how many certificates a policy has to be there, and none may stand for another.
 pub fn push_policy_constraints(
-    alloc: Global,
-    page: &mut Page,
+    printer: &mut Printer<'_>,
     inner: Inner<'_>,
 ) -> Result<(), AllocError> {
-    match PolicyConstraints::from_der(alloc, inner.octets) {
+    match PolicyConstraints::from_der(printer.alloc, inner.octets) {
         Ok(constraints) => {
             let explicit = constraints.require_explicit_policy();
-            push_count(page, "explicit policy after", explicit)?;
+            push_count(printer.page, "explicit policy after", explicit)?;
             let mapping = constraints.inhibit_policy_mapping();
-            push_count(page, "no mapping after", mapping)
+            push_count(printer.page, "no mapping after", mapping)
         }
-        Err(error) => {
-            page.text.push_str(", ")?;
-            push_malformed(page, inner.begin, error)
-        }
+        Err(error) => printer.push_malformed_value(inner, error),
     }
 }
 
@@ -68,10 +61,10 @@ fn push_count(
 
 /// Adds a number: that of a list, or of a list to which one adds, or after how many certificates no
 /// policy stands for any.
-pub fn push_number(alloc: Global, page: &mut Page, inner: Inner<'_>) -> Result<(), AllocError> {
-    page.text.push_str(", ")?;
-    match UintRef::from_der(alloc, inner.octets) {
-        Ok(number) => push_number_of(page, number.as_bytes()),
-        Err(error) => push_malformed(page, inner.begin, error),
+pub fn push_number(printer: &mut Printer<'_>, inner: Inner<'_>) -> Result<(), AllocError> {
+    printer.push_str(", ")?;
+    match UintRef::from_der(printer.alloc, inner.octets) {
+        Ok(number) => push_number_of(printer.page, number.as_bytes()),
+        Err(error) => push_malformed(printer.page, inner.begin, error),
     }
 }

@@ -2,161 +2,156 @@
 
 use crate::algorithms::push_algorithm;
 use crate::any_values::push_any;
+use crate::field_name::FieldName;
 use crate::identifiers::push_identifier;
-use crate::labels::push_label;
-use crate::page::Page;
-use crate::place::{Place, inner_at};
+use crate::place::Place;
+use crate::printer::Printer;
 use crate::rows::{push_identifier_row, push_integer_row, push_malformed_row, push_octets_row};
 use der_asn1_types::FromDer;
-use der_pkcs::encryption::constants::{ID_HMAC_WITH_SHA1, ID_PBES2, ID_PBKDF2};
+use der_pkcs::encryption::constants::{ID_HMAC_WITH_SHA1, ID_PBES2, ID_PBKDF2, PKCS_5};
 use der_pkcs::encryption::{PbeParameter, Pbes2Params, Pbkdf2Params, Pbkdf2Salt};
+use der_pkcs::pkcs12::constants::PKCS_12_PBE_IDS;
 use der_pkix::AlgorithmIdentifier;
-use der_places::places_of;
-use std::alloc::{AllocError, Global};
+use std::alloc::AllocError;
 
 /// Adds the lines of an algorithm of encryption: what it is, and its parameters, those of PBES2, of PBES1
 /// and of PKCS #12 by their fields.
 pub fn push_encryption(
-    alloc: Global,
-    page: &mut Page,
-    octets: &[u8],
+    printer: &mut Printer<'_>,
     place: &Place,
     algorithm: &AlgorithmIdentifier<'_>,
 ) -> Result<(), AllocError> {
-    let label = "encryption algorithm";
+    let field = FieldName::EncryptionAlgorithm;
     let identifier = algorithm.oid.as_bytes();
-    let parameters = places_of(algorithm, octets, place.offset).parameters;
+    let parameters = printer.places_of(algorithm, place).parameters;
     if identifier == ID_PBES2.as_slice() {
-        push_identifier_row(alloc, page, place, label, identifier)?;
-        return push_scheme(alloc, page, octets, &parameters);
+        push_identifier_row(printer, place, field, identifier)?;
+        return push_scheme(printer, &parameters);
     }
     if has_salt_and_count(identifier) {
-        push_identifier_row(alloc, page, place, label, identifier)?;
-        return push_salt_and_count(alloc, page, octets, &parameters);
+        push_identifier_row(printer, place, field, identifier)?;
+        return push_salt_and_count(printer, &parameters);
     }
-    push_cipher(alloc, page, place, label, algorithm)
+    push_cipher(printer, place, field, algorithm)
 }
 
 /// Whether an algorithm has a salt and a count as its parameters: PBES1 (1.2.840.113549.1.5, 1 to 11) and
 /// the six of PKCS #12 (1.2.840.113549.1.12.1).
 fn has_salt_and_count(identifier: &[u8]) -> bool {
     match identifier {
-        [0x2a, 0x86, 0x48, 0x86, 0xf7, 0x0d, 1, 5, last] => *last <= 11,
-        [0x2a, 0x86, 0x48, 0x86, 0xf7, 0x0d, 1, 12, 1, _] => true,
-        _ => false,
+        [front @ .., last] if front == PKCS_5.as_slice() => *last <= 11,
+        [front @ .., _] => front == PKCS_12_PBE_IDS.as_slice(),
+        [] => false,
     }
 }
 
 /// Adds the fields of PBES2-params.
-fn push_scheme(
-    alloc: Global,
-    page: &mut Page,
-    octets: &[u8],
-    place: &Place,
-) -> Result<(), AllocError> {
-    let inner = inner_at(octets, place);
-    match Pbes2Params::from_der(alloc, inner.octets) {
+fn push_scheme(printer: &mut Printer<'_>, place: &Place) -> Result<(), AllocError> {
+    let inner = printer.inner_at(place);
+    match Pbes2Params::from_der(printer.alloc, inner.octets) {
         Ok(scheme) => {
-            let at = places_of(&scheme, octets, place.offset);
+            let at = printer.places_of(&scheme, place);
             push_derivation(
-                alloc,
-                page,
-                octets,
+                printer,
                 &at.key_derivation_func,
                 scheme.key_derivation_func(),
             )?;
             push_cipher(
-                alloc,
-                page,
+                printer,
                 &at.encryption_scheme,
-                "cipher",
+                FieldName::Cipher,
                 scheme.encryption_scheme(),
             )
         }
-        Err(error) => push_malformed_row(page, place, "scheme", inner.begin, error),
+        Err(error) => push_malformed_row(printer, place, FieldName::Scheme, inner.begin, error),
     }
 }
 
 /// Adds the fields of a function that makes a key of a password: those of PBKDF2, and else its parameters
 /// as they are encoded.
 pub fn push_derivation(
-    alloc: Global,
-    page: &mut Page,
-    octets: &[u8],
+    printer: &mut Printer<'_>,
     place: &Place,
     function: &AlgorithmIdentifier<'_>,
 ) -> Result<(), AllocError> {
-    let label = "key derivation";
+    let field = FieldName::KeyDerivation;
     let identifier = function.oid.as_bytes();
     if identifier != ID_PBKDF2.as_slice() {
-        return push_algorithm(alloc, page, place, label, function);
+        return push_algorithm(printer, place, field, function);
     }
-    push_identifier_row(alloc, page, place, label, identifier)?;
-    let fields = places_of(function, octets, place.offset).parameters;
-    let inner = inner_at(octets, &fields);
-    match Pbkdf2Params::from_der(alloc, inner.octets) {
-        Ok(derivation) => push_derivation_fields(alloc, page, octets, &fields, &derivation),
-        Err(error) => push_malformed_row(page, &fields, label, inner.begin, error),
+    push_identifier_row(printer, place, field, identifier)?;
+    let fields = printer.places_of(function, place).parameters;
+    let inner = printer.inner_at(&fields);
+    match Pbkdf2Params::from_der(printer.alloc, inner.octets) {
+        Ok(derivation) => push_derivation_fields(printer, &fields, &derivation),
+        Err(error) => push_malformed_row(printer, &fields, field, inner.begin, error),
     }
 }
 
 /// Adds the fields of PBKDF2-params; a function that is absent is HMAC with SHA-1.
 fn push_derivation_fields(
-    alloc: Global,
-    page: &mut Page,
-    octets: &[u8],
+    printer: &mut Printer<'_>,
     place: &Place,
     derivation: &Pbkdf2Params<'_>,
 ) -> Result<(), AllocError> {
-    let at = places_of(derivation, octets, place.offset);
+    let at = printer.places_of(derivation, place);
     match derivation.salt() {
-        Pbkdf2Salt::Specified(salt) => push_octets_row(page, &at.salt, "salt", salt.as_bytes())?,
-        Pbkdf2Salt::OtherSource(source) => push_algorithm(alloc, page, &at.salt, "salt", source)?,
+        Pbkdf2Salt::Specified(salt) => push_octets_row(
+            printer,
+            &at.salt,
+            FieldName::Salt,
+            salt.as_bytes(),
+        )?,
+        Pbkdf2Salt::OtherSource(source) => push_algorithm(
+            printer,
+            &at.salt,
+            FieldName::Salt,
+            source,
+        )?,
     }
     let count = derivation.iteration_count();
-    push_integer_row(page, &at.iteration_count, "iterations", count)?;
+    push_integer_row(printer, &at.iteration_count, FieldName::Iterations, count)?;
     if let Some(length) = derivation.key_length() {
-        push_integer_row(page, &at.key_length, "key length", length)?;
+        push_integer_row(printer, &at.key_length, FieldName::KeyLength, length)?;
     }
-    let label = "pseudorandom function";
+    let field = FieldName::PseudorandomFunction;
     match derivation.prf() {
-        Some(algorithm) => push_algorithm(alloc, page, &at.prf, label, algorithm),
-        None => push_identifier_row(alloc, page, &at.prf, label, &ID_HMAC_WITH_SHA1),
+        Some(algorithm) => push_algorithm(printer, &at.prf, field, algorithm),
+        None => push_identifier_row(printer, &at.prf, field, &ID_HMAC_WITH_SHA1),
     }
 }
 
 /// Adds a line with a cipher and its parameters, which of many are an OCTET STRING, the first block.
 pub fn push_cipher(
-    alloc: Global,
-    page: &mut Page,
+    printer: &mut Printer<'_>,
     place: &Place,
-    label: &str,
+    field: FieldName,
     cipher: &AlgorithmIdentifier<'_>,
 ) -> Result<(), AllocError> {
-    push_label(page, place, label)?;
-    push_identifier(alloc, page, cipher.oid.as_bytes())?;
+    printer.begin(place, field)?;
+    push_identifier(printer, cipher.oid.as_bytes())?;
     if let Some(parameters) = &cipher.parameters {
-        page.text.push_str(", ")?;
-        push_any(alloc, page, Some(place.behind() as usize), parameters)?;
+        printer.push_str(", ")?;
+        push_any(printer, Some(place.behind() as usize), parameters)?;
     }
-    page.text.push('\n')
+    printer.push('\n')
 }
 
 /// Adds the fields of a PBEParameter.
-fn push_salt_and_count(
-    alloc: Global,
-    page: &mut Page,
-    octets: &[u8],
-    place: &Place,
-) -> Result<(), AllocError> {
-    let inner = inner_at(octets, place);
-    match PbeParameter::from_der(alloc, inner.octets) {
+fn push_salt_and_count(printer: &mut Printer<'_>, place: &Place) -> Result<(), AllocError> {
+    let inner = printer.inner_at(place);
+    match PbeParameter::from_der(printer.alloc, inner.octets) {
         Ok(parameter) => {
-            let at = places_of(&parameter, octets, place.offset);
-            push_octets_row(page, &at.salt, "salt", parameter.salt().as_bytes())?;
+            let at = printer.places_of(&parameter, place);
+            push_octets_row(
+                printer,
+                &at.salt,
+                FieldName::Salt,
+                parameter.salt().as_bytes(),
+            )?;
             let count = parameter.iteration_count();
-            push_integer_row(page, &at.iteration_count, "iterations", count)
+            push_integer_row(printer, &at.iteration_count, FieldName::Iterations, count)
         }
-        Err(error) => push_malformed_row(page, place, "parameters", inner.begin, error),
+        Err(error) => push_malformed_row(printer, place, FieldName::Parameters, inner.begin, error),
     }
 }

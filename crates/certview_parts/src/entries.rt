@@ -1,19 +1,20 @@
 //! The values of the extensions of a revoked entry as text (RFC 5280 section 5.3), but for names.
 
 use crate::identifiers::push_identifier;
-use crate::page::{Inner, Page, push_malformed, push_malformed_inner};
+use crate::page::{Inner, push_malformed, push_malformed_inner};
+use crate::printer::Printer;
 use crate::times::push_date_time;
 use der_asn1_types::FromDer;
 use der_asn1_types::asn1::Enumerated;
 use der_extensions::extension::{CrlReason, HoldInstructionCode, InvalidityDate};
-use std::alloc::{AllocError, Global};
+use std::alloc::AllocError;
 
 /// Adds why it is revoked.
-pub fn push_reason(alloc: Global, page: &mut Page, inner: Inner<'_>) -> Result<(), AllocError> {
-    page.text.push_str(", ")?;
-    match Enumerated::<CrlReason>::from_der(alloc, inner.octets) {
-        Ok(reason) => page.text.push_str(name_of(reason.value)),
-        Err(error) => push_malformed(page, inner.begin, error),
+pub fn push_reason(printer: &mut Printer<'_>, inner: Inner<'_>) -> Result<(), AllocError> {
+    printer.push_str(", ")?;
+    match Enumerated::<CrlReason>::from_der(printer.alloc, inner.octets) {
+        Ok(reason) => printer.push_str(name_of(reason.value)),
+        Err(error) => push_malformed(printer.page, inner.begin, error),
     }
 }
 
@@ -34,23 +35,19 @@ pub fn name_of(reason: CrlReason) -> &'static str {
 }
 
 /// Adds since when the key was not to be relied on.
-pub fn push_invalidity(alloc: Global, page: &mut Page, inner: Inner<'_>) -> Result<(), AllocError> {
-    page.text.push_str(", ")?;
-    match InvalidityDate::from_der(alloc, inner.octets) {
-        Ok(time) => push_date_time(page, &time.to_date_time()),
-        Err(error) => push_malformed_inner(page, inner, error),
+pub fn push_invalidity(printer: &mut Printer<'_>, inner: Inner<'_>) -> Result<(), AllocError> {
+    printer.push_str(", ")?;
+    match InvalidityDate::from_der(printer.alloc, inner.octets) {
+        Ok(time) => push_date_time(printer.page, &time.to_date_time()),
+        Err(error) => push_malformed_inner(printer.page, inner, error),
     }
 }
 
 /// Adds what to do with a certificate that is on hold.
-pub fn push_instruction(
-    alloc: Global,
-    page: &mut Page,
-    inner: Inner<'_>,
-) -> Result<(), AllocError> {
-    page.text.push_str(", ")?;
-    match HoldInstructionCode::from_der(alloc, inner.octets) {
-        Ok(code) => push_identifier(alloc, page, code.as_bytes()),
-        Err(error) => push_malformed(page, inner.begin, error),
+pub fn push_instruction(printer: &mut Printer<'_>, inner: Inner<'_>) -> Result<(), AllocError> {
+    printer.push_str(", ")?;
+    match HoldInstructionCode::from_der(printer.alloc, inner.octets) {
+        Ok(code) => push_identifier(printer, code.as_bytes()),
+        Err(error) => push_malformed(printer.page, inner.begin, error),
     }
 }

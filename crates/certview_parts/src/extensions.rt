@@ -13,73 +13,92 @@ use crate::periods::push_period;
 use crate::place::Place;
 use crate::points::{push_issuing_point, push_points};
 use crate::policies::{push_mappings, push_policies};
+use crate::printer::Printer;
 use crate::private_extensions::push_private;
 use crate::subtrees::push_name_constraints;
 use crate::usages::{push_purposes, push_usage};
+use der_extensions::extension::constants::{
+    self, ID_CE_AUTHORITY_KEY_IDENTIFIER, ID_CE_BASIC_CONSTRAINTS, ID_CE_CERTIFICATE_ISSUER,
+    ID_CE_CERTIFICATE_POLICIES, ID_CE_CRL_DISTRIBUTION_POINTS, ID_CE_CRL_NUMBER, ID_CE_CRL_REASONS,
+    ID_CE_DELTA_CRL_INDICATOR, ID_CE_EXT_KEY_USAGE, ID_CE_FRESHEST_CRL,
+    ID_CE_HOLD_INSTRUCTION_CODE, ID_CE_INHIBIT_ANY_POLICY, ID_CE_INVALIDITY_DATE,
+    ID_CE_ISSUER_ALT_NAME, ID_CE_ISSUING_DISTRIBUTION_POINT, ID_CE_KEY_USAGE,
+    ID_CE_NAME_CONSTRAINTS, ID_CE_POLICY_CONSTRAINTS, ID_CE_POLICY_MAPPINGS,
+    ID_CE_PRIVATE_KEY_USAGE_PERIOD, ID_CE_SUBJECT_ALT_NAME, ID_CE_SUBJECT_DIRECTORY_ATTRIBUTES,
+    ID_CE_SUBJECT_KEY_IDENTIFIER,
+};
 use der_pkix::certificate::Extension;
-use std::alloc::{AllocError, Global};
+use std::alloc::AllocError;
 use std::fmt::Write;
+
+/// The identifier of authorityInfoAccess (RFC 5280 section 4.2.2.1).
+const ID_PE_AUTHORITY_INFO_ACCESS: &[u8] = &constants::ID_PE_AUTHORITY_INFO_ACCESS;
+
+/// The identifier of subjectInfoAccess (RFC 5280 section 4.2.2.2).
+const ID_PE_SUBJECT_INFO_ACCESS: &[u8] = &constants::ID_PE_SUBJECT_INFO_ACCESS;
 
 /// Adds an extension: what it is, whether it is critical, and its value.
 pub fn push_extension(
-    alloc: Global,
-    page: &mut Page,
+    printer: &mut Printer<'_>,
     place: &Place,
     extension: &Extension<'_>,
 ) -> Result<(), AllocError> {
     let identifier = extension.extn_id();
-    push_identifier(alloc, page, identifier.as_bytes())?;
+    push_identifier(printer, identifier.as_bytes())?;
     if extension.critical() {
-        page.text.push_str(", critical")?;
+        printer.push_str(", critical")?;
     }
     let octets = extension.extn_value().as_bytes();
     let count = octets.len();
-    write!(page.text, ", {count} octets")?;
+    write!(printer.page.text, ", {count} octets")?;
     let begin = (place.behind() as usize).saturating_sub(count);
-    push_value(alloc, page, identifier.as_bytes(), Inner { octets, begin })
+    push_value(printer, identifier.as_bytes(), Inner { octets, begin })
 }
 
 /// Adds what the octets of an extension's value say; of one that is not known, the octets.
 fn push_value(
-    alloc: Global,
-    page: &mut Page,
+    printer: &mut Printer<'_>,
     identifier: &[u8],
     inner: Inner<'_>,
 ) -> Result<(), AllocError> {
     match identifier {
-        [0x55, 0x1d, last] => push_value_of(alloc, page, *last, inner),
-        [0x2b, 6, 1, 5, 5, 7, 1, 1 | 11] => push_access(alloc, page, inner),
-        _ => push_private(alloc, page, identifier, inner),
+        [a, b, c] => push_value_of(printer, [*a, *b, *c], inner),
+        ID_PE_AUTHORITY_INFO_ACCESS | ID_PE_SUBJECT_INFO_ACCESS => push_access(printer, inner),
+        _ => push_private(printer, identifier, inner),
     }
 }
 
-/// The same for an extension of RFC 5280, by the last arc of its identifier 2.5.29.
+/// Adds what the octets of an extension's value say whose identifier has three octets, as those of RFC 5280
+/// sections 4.2.1, 5.2 and 5.3 have.
 fn push_value_of(
-    alloc: Global,
-    page: &mut Page,
-    last: u8,
+    printer: &mut Printer<'_>,
+    identifier: [u8; 3],
     inner: Inner<'_>,
 ) -> Result<(), AllocError> {
-    match last {
-        9 => push_directory_attributes(alloc, page, inner),
-        14 => push_subject_key(alloc, page, inner),
-        15 => push_usage(alloc, page, inner),
-        16 => push_period(alloc, page, inner),
-        17 | 18 | 29 => push_other_names(alloc, page, inner),
-        19 => push_constraints(alloc, page, inner),
-        20 | 27 | 54 => push_number(alloc, page, inner),
-        21 => push_reason(alloc, page, inner),
-        23 => push_instruction(alloc, page, inner),
-        24 => push_invalidity(alloc, page, inner),
-        28 => push_issuing_point(alloc, page, inner),
-        30 => push_name_constraints(alloc, page, inner),
-        31 | 46 => push_points(alloc, page, inner),
-        32 => push_policies(alloc, page, inner),
-        33 => push_mappings(alloc, page, inner),
-        35 => push_authority_key(alloc, page, inner),
-        36 => push_policy_constraints(alloc, page, inner),
-        37 => push_purposes(alloc, page, inner),
-        _ => push_unknown(page, inner),
+    match identifier {
+        ID_CE_SUBJECT_DIRECTORY_ATTRIBUTES => push_directory_attributes(printer, inner),
+        ID_CE_SUBJECT_KEY_IDENTIFIER => push_subject_key(printer, inner),
+        ID_CE_KEY_USAGE => push_usage(printer, inner),
+        ID_CE_PRIVATE_KEY_USAGE_PERIOD => push_period(printer, inner),
+        ID_CE_SUBJECT_ALT_NAME | ID_CE_ISSUER_ALT_NAME | ID_CE_CERTIFICATE_ISSUER => {
+            push_other_names(printer, inner)
+        }
+        ID_CE_BASIC_CONSTRAINTS => push_constraints(printer, inner),
+        ID_CE_CRL_NUMBER | ID_CE_DELTA_CRL_INDICATOR | ID_CE_INHIBIT_ANY_POLICY => {
+            push_number(printer, inner)
+        }
+        ID_CE_CRL_REASONS => push_reason(printer, inner),
+        ID_CE_HOLD_INSTRUCTION_CODE => push_instruction(printer, inner),
+        ID_CE_INVALIDITY_DATE => push_invalidity(printer, inner),
+        ID_CE_ISSUING_DISTRIBUTION_POINT => push_issuing_point(printer, inner),
+        ID_CE_NAME_CONSTRAINTS => push_name_constraints(printer, inner),
+        ID_CE_CRL_DISTRIBUTION_POINTS | ID_CE_FRESHEST_CRL => push_points(printer, inner),
+        ID_CE_CERTIFICATE_POLICIES => push_policies(printer, inner),
+        ID_CE_POLICY_MAPPINGS => push_mappings(printer, inner),
+        ID_CE_AUTHORITY_KEY_IDENTIFIER => push_authority_key(printer, inner),
+        ID_CE_POLICY_CONSTRAINTS => push_policy_constraints(printer, inner),
+        ID_CE_EXT_KEY_USAGE => push_purposes(printer, inner),
+        _ => push_unknown(printer.page, inner),
     }
 }
 

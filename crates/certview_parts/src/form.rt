@@ -1,7 +1,8 @@
 //! The two forms in which the items of a page are written.
 
+use crate::field_name::FieldName;
 use crate::json::Json;
-use crate::page::{Item, ItemKind, Page};
+use crate::page::{Entry, Item, ItemKind, Page};
 use crate::place::Place;
 use std::alloc::{AllocError, Global};
 use std::fmt::Write;
@@ -18,13 +19,13 @@ pub enum Form {
 /// Writes the items of pages, which follow one another.
 #[derive(Clone, Copy, Debug)]
 pub struct Writer<'a> {
-    fields: Option<&'a [&'a str]>,
+    fields: Option<&'a [FieldName]>,
     json: Option<Json>,
 }
 
 impl<'a> Writer<'a> {
-    /// Writes in this form the fields with these names, or all.
-    pub fn new(form: Form, fields: Option<&'a [&'a str]>) -> Writer<'a> {
+    /// Writes in this form these fields, or all.
+    pub fn new(form: Form, fields: Option<&'a [FieldName]>) -> Writer<'a> {
         Writer {
             fields,
             json: match form {
@@ -38,12 +39,17 @@ impl<'a> Writer<'a> {
     pub fn add(&mut self, alloc: Global, out: &mut String, page: &Page) -> Result<(), AllocError> {
         let mut said: usize = 0;
         for (index, item) in page.items.as_slice().iter().enumerate() {
-            if self.is_left_out(page, item) {
+            if self.is_left_out(item) {
                 continue;
             }
+            let entry = Entry {
+                page,
+                index,
+                item: *item,
+            };
             match &mut self.json {
-                Some(json) => said = json.add(alloc, out, page, index, item, said)?,
-                None => push_item(out, page, index, item, self.fields.is_none())?,
+                Some(json) => said = json.add(alloc, out, &entry, said)?,
+                None => push_item(out, &entry, self.fields.is_none())?,
             }
         }
         Ok(())
@@ -58,49 +64,18 @@ impl<'a> Writer<'a> {
     }
 
     /// Whether an item is a field that is not asked for.
-    fn is_left_out(&self, page: &Page, item: &Item) -> bool {
+    fn is_left_out(&self, item: &Item) -> bool {
         match (self.fields, item.kind) {
-            (Some(fields), ItemKind::Field(_)) => !is_one_of(fields, page.name_of(item)),
+            (Some(fields), ItemKind::Field(field, _)) => !fields.contains(&field),
             _ => false,
         }
     }
 }
 
-/// Whether a label is one of these names.
-fn is_one_of(names: &[&str], label: &str) -> bool {
-    for name in names {
-        if is_name_of(name.as_bytes(), label.as_bytes()) {
-            return true;
-        }
-    }
-    false
-}
-
-/// Whether this is the name of a label: the label with a `-` for each space.
-fn is_name_of(name: &[u8], label: &[u8]) -> bool {
-    if name.len() != label.len() {
-        return false;
-    }
-    for (one, other) in name.iter().zip(label.iter()) {
-        let wanted = if *other == b' ' { b'-' } else { *other };
-        if *one != wanted {
-            return false;
-        }
-    }
-    true
-}
-
 /// Adds the line of an item. Where only some fields are asked for, the line of a message is left out.
-fn push_item(
-    out: &mut String,
-    page: &Page,
-    index: usize,
-    item: &Item,
-    has_titles: bool,
-) -> Result<(), AllocError> {
-    let name = page.name_of(item);
-    let value = page.value_of(index, item);
-    match item.kind {
+fn push_item(out: &mut String, entry: &Entry<'_>, has_titles: bool) -> Result<(), AllocError> {
+    let (name, value) = (entry.name(), entry.value());
+    match entry.item.kind {
         ItemKind::Input => writeln!(out, "{value}:"),
         ItemKind::Block(number, count) => push_heading(out, number, count, value),
         ItemKind::Message(place) if has_titles => {
@@ -108,7 +83,7 @@ fn push_item(
             writeln!(out, "{name}")
         }
         ItemKind::Message(_) => Ok(()),
-        ItemKind::Field(place) => {
+        ItemKind::Field(_, place) => {
             push_place(out, &place)?;
             writeln!(out, "{name}: {value}")
         }

@@ -5,36 +5,29 @@ use crate::hexadecimal::push_digits;
 use crate::identifier_names::{ALGORITHMS, ATTRIBUTES, CURVES, EXTENSIONS, Named, PURPOSES};
 use crate::irregular::note_identifier;
 use crate::page::Page;
+use crate::printer::Printer;
 use std::alloc::{AllocError, Global};
 use std::fmt::Write;
 
 /// Adds the identifier of these contents octets, and its name in brackets where it has one here. Octets
 /// that are none are noted.
-pub fn push_identifier(
-    alloc: Global,
-    page: &mut Page,
-    identifier: &[u8],
-) -> Result<(), AllocError> {
-    note_identifier(page, identifier)?;
-    let dotted = dotted(alloc, identifier)?;
-    page.text.push_str(dotted.as_str())?;
+pub fn push_identifier(printer: &mut Printer<'_>, identifier: &[u8]) -> Result<(), AllocError> {
+    note_identifier(printer.page, identifier)?;
+    let dotted = dotted(printer.alloc, identifier)?;
+    printer.push_str(dotted.as_str())?;
     match name_of(dotted.as_str()) {
-        Some(name) => write!(page.text, " ({name})"),
+        Some(name) => write!(printer.page.text, " ({name})"),
         None => Ok(()),
     }
 }
 
 /// Adds the name of an attribute's identifier, and else the identifier (RFC 4514 section 2.3).
-pub fn push_attribute_type(
-    alloc: Global,
-    page: &mut Page,
-    identifier: &[u8],
-) -> Result<(), AllocError> {
-    note_identifier(page, identifier)?;
-    let dotted = dotted(alloc, identifier)?;
+pub fn push_attribute_type(printer: &mut Printer<'_>, identifier: &[u8]) -> Result<(), AllocError> {
+    note_identifier(printer.page, identifier)?;
+    let dotted = dotted(printer.alloc, identifier)?;
     match name_in(&ATTRIBUTES, dotted.as_str()) {
-        Some(name) => page.text.push_str(name),
-        None => page.text.push_str(dotted.as_str()),
+        Some(name) => printer.push_str(name),
+        None => printer.push_str(dotted.as_str()),
     }
 }
 

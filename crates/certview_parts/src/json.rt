@@ -1,7 +1,7 @@
 //! The items of a page as a part of a document of JSON, of which `docs/certview.schema.json` is the
 //! schema.
 
-use crate::page::{Item, ItemKind, Page, Said, Span};
+use crate::page::{Entry, ItemKind, Page, Said, Span};
 use crate::place::Place;
 use crate::quoted::quoted;
 use std::alloc::{AllocError, Global};
@@ -44,37 +44,35 @@ impl Json {
         }
     }
 
-    /// Adds an item, of which the faults stand behind so many others, and answers how many stand before
-    /// those of the next one.
+    /// Adds an item. `said` is the number of errors that earlier items have; the result is the
+    /// number of errors before those of the next item.
     pub fn add(
         &mut self,
         alloc: Global,
         out: &mut String,
-        page: &Page,
-        index: usize,
-        item: &Item,
+        entry: &Entry<'_>,
         said: usize,
     ) -> Result<usize, AllocError> {
-        let said = first_of(page, index, said);
-        match item.kind {
-            ItemKind::Input => self.push_input(alloc, out, page.value_of(index, item))?,
+        let said = first_of(entry, said);
+        match entry.item.kind {
+            ItemKind::Input => self.push_input(alloc, out, entry.value())?,
             ItemKind::Block(number, count) => {
-                let label = quoted(alloc, page.value_of(index, item))?;
+                let label = quoted(alloc, entry.value())?;
                 self.push_block(out, number, count, label.as_str())?
             }
             ItemKind::Message(place) => {
-                let kind = quoted(alloc, page.name_of(item))?;
+                let kind = quoted(alloc, entry.name())?;
                 self.push_message(out, &place, kind.as_str())?
             }
-            ItemKind::Field(place) => {
-                let name = quoted(alloc, page.name_of(item))?;
-                let value = quoted(alloc, page.value_of(index, item))?;
+            ItemKind::Field(_, place) => {
+                let name = quoted(alloc, entry.name())?;
+                let value = quoted(alloc, entry.value())?;
                 self.push_field(out, &place, name.as_str(), value.as_str())?;
-                let after = push_malformed(alloc, out, page, index, said)?;
+                let after = push_malformed(alloc, out, entry, said)?;
                 out.push('}')?;
                 return Ok(after);
             }
-            ItemKind::Refused => return self.push_refused(alloc, out, page, index, said),
+            ItemKind::Refused => return self.push_refused(alloc, out, entry, said),
         }
         Ok(said)
     }
@@ -185,15 +183,14 @@ impl Json {
         &mut self,
         alloc: Global,
         out: &mut String,
-        page: &Page,
-        index: usize,
+        entry: &Entry<'_>,
         said: usize,
     ) -> Result<usize, AllocError> {
-        let Some(fault) = fault_of(page, index, said) else {
+        let Some(fault) = fault_of(entry, said) else {
             return Ok(said);
         };
         out.push_str(", \"refused\": ")?;
-        push_fault(alloc, out, page, &fault)?;
+        push_fault(alloc, out, entry.page, &fault)?;
         if self.state == State::Headed {
             self.state = State::Refused;
         }
@@ -202,10 +199,11 @@ impl Json {
 }
 
 /// How many faults stand before those of an item, from so many on.
-fn first_of(page: &Page, index: usize, said: usize) -> usize {
+fn first_of(entry: &Entry<'_>, said: usize) -> usize {
+    let page = entry.page;
     let mut first = said;
     for number in said..page.faults.len() {
-        if page.faults[number].item >= index {
+        if page.faults[number].item >= entry.index {
             return first;
         }
         first = number.saturating_add(1);
@@ -214,25 +212,24 @@ fn first_of(page: &Page, index: usize, said: usize) -> usize {
 }
 
 /// The fault of an item, where it stands behind so many others.
-fn fault_of(page: &Page, index: usize, said: usize) -> Option<Said> {
-    match page.faults.as_slice().get(said) {
-        Some(fault) if fault.item == index => Some(*fault),
+fn fault_of(entry: &Entry<'_>, said: usize) -> Option<Said> {
+    match entry.page.faults.as_slice().get(said) {
+        Some(fault) if fault.item == entry.index => Some(*fault),
         _ => None,
     }
 }
 
-/// Adds the faults of a field, which stand behind so many others, and answers how many stand before those
-/// of the next item.
+/// Adds the errors of a field. `said` is the number of errors that earlier items have; the result is
+/// the number of errors before those of the next item.
 fn push_malformed(
     alloc: Global,
     out: &mut String,
-    page: &Page,
-    index: usize,
+    entry: &Entry<'_>,
     said: usize,
 ) -> Result<usize, AllocError> {
     let mut after = said;
-    for number in said..page.faults.len() {
-        let Some(fault) = fault_of(page, index, number) else {
+    for number in said..entry.page.faults.len() {
+        let Some(fault) = fault_of(entry, number) else {
             break;
         };
         out.push_str(if number == said {
@@ -240,7 +237,7 @@ fn push_malformed(
         } else {
             ", "
         })?;
-        push_fault(alloc, out, page, &fault)?;
+        push_fault(alloc, out, entry.page, &fault)?;
         after = number.saturating_add(1);
     }
     if after > said {

@@ -2,14 +2,26 @@
 
 use der_asn1_types::asn1::BitStringRef;
 
+/// X25519 (RFC 8410 section 3).
+const ID_X25519: &[u8] = &[0x2b, 0x65, 110];
+
+/// X448 (RFC 8410 section 3).
+const ID_X448: &[u8] = &[0x2b, 0x65, 111];
+
+/// Ed25519 (RFC 8410 section 3).
+const ID_ED25519: &[u8] = &[0x2b, 0x65, 112];
+
+/// Ed448 (RFC 8410 section 3).
+const ID_ED448: &[u8] = &[0x2b, 0x65, 113];
+
 /// How many octets a key has of an algorithm with an identifier of these contents octets, if it is one
-/// of RFC 8410: X25519, X448, Ed25519 and Ed448 (1.3.101.110 to 113; RFC 7748 section 5, RFC 8032
+/// of RFC 8410: X25519, X448, Ed25519 and Ed448 (RFC 7748 section 5, RFC 8032
 /// sections 5.1.5 and 5.2.5).
 pub fn size_of(algorithm: &[u8]) -> Option<usize> {
     match algorithm {
-        [0x2b, 0x65, 110 | 112] => Some(32),
-        [0x2b, 0x65, 111] => Some(56),
-        [0x2b, 0x65, 113] => Some(57),
+        ID_X25519 | ID_ED25519 => Some(32),
+        ID_X448 => Some(56),
+        ID_ED448 => Some(57),
         _ => None,
     }
 }

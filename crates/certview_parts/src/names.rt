@@ -1,44 +1,42 @@
 //! Names as text (RFC 4514, in the order in which the attributes stand).
 
 use crate::characters::{Behind, push_escaped};
+use crate::field_name::FieldName;
 use crate::hexadecimal::push_digits;
 use crate::identifiers::push_attribute_type;
 use crate::irregular::note_value;
-use crate::labels::push_label;
-use crate::page::Page;
 use crate::place::Place;
+use crate::printer::Printer;
 use der_asn1_types::asn1::AnyRef;
 use der_asn1_types::{Encode, Tag};
 use der_pkix::name::{AttributeTypeAndValue, Name, RelativeDistinguishedName};
-use std::alloc::{AllocError, Global};
+use std::alloc::AllocError;
 
 /// Adds a line with a name.
 pub fn push_name(
-    alloc: Global,
-    page: &mut Page,
+    printer: &mut Printer<'_>,
     place: &Place,
-    label: &str,
+    field: FieldName,
     name: &Name<'_>,
 ) -> Result<(), AllocError> {
-    push_label(page, place, label)?;
-    push_places(alloc, page, name, Behind::Mark)?;
-    page.text.push('\n')
+    printer.begin(place, field)?;
+    push_places(printer, name, Behind::Mark)?;
+    printer.push('\n')
 }
 
 /// Adds the places of a name.
 pub fn push_places(
-    alloc: Global,
-    page: &mut Page,
+    printer: &mut Printer<'_>,
     name: &Name<'_>,
     behind: Behind,
 ) -> Result<(), AllocError> {
     let mut is_first = true;
-    for item in name.items().iter(alloc) {
+    for item in name.items().iter(printer.alloc) {
         let Ok(place) = item else {
             // It was read before.
             return Err(AllocError);
         };
-        push_next_place(alloc, page, is_first, &place, behind)?;
+        push_next_place(printer, is_first, &place, behind)?;
         is_first = false;
     }
     Ok(())
@@ -46,32 +44,30 @@ pub fn push_places(
 
 /// Adds a place of a name, after a comma if it is not the first.
 fn push_next_place(
-    alloc: Global,
-    page: &mut Page,
+    printer: &mut Printer<'_>,
     is_first: bool,
     place: &RelativeDistinguishedName<'_>,
     behind: Behind,
 ) -> Result<(), AllocError> {
     if !is_first {
-        page.text.push_str(", ")?;
+        printer.push_str(", ")?;
     }
-    push_attributes(alloc, page, place, behind)
+    push_attributes(printer, place, behind)
 }
 
 /// Adds the attributes of a place of a name.
 pub fn push_attributes(
-    alloc: Global,
-    page: &mut Page,
+    printer: &mut Printer<'_>,
     place: &RelativeDistinguishedName<'_>,
     behind: Behind,
 ) -> Result<(), AllocError> {
     let mut is_first = true;
-    for item in place.items().iter(alloc) {
+    for item in place.items().iter(printer.alloc) {
         let Ok(attribute) = item else {
             // It was read before.
             return Err(AllocError);
         };
-        push_next_attribute(alloc, page, is_first, &attribute, behind)?;
+        push_next_attribute(printer, is_first, &attribute, behind)?;
         is_first = false;
     }
     Ok(())
@@ -79,48 +75,45 @@ pub fn push_attributes(
 
 /// Adds an attribute, after a `+` if it is not the first of its place.
 fn push_next_attribute(
-    alloc: Global,
-    page: &mut Page,
+    printer: &mut Printer<'_>,
     is_first: bool,
     attribute: &AttributeTypeAndValue<'_>,
     behind: Behind,
 ) -> Result<(), AllocError> {
     if !is_first {
-        page.text.push('+')?;
+        printer.push('+')?;
     }
-    push_attribute(alloc, page, attribute, behind)
+    push_attribute(printer, attribute, behind)
 }
 
 /// Adds an attribute.
 pub fn push_attribute(
-    alloc: Global,
-    page: &mut Page,
+    printer: &mut Printer<'_>,
     attribute: &AttributeTypeAndValue<'_>,
     behind: Behind,
 ) -> Result<(), AllocError> {
     let identifier = attribute.type_();
-    push_attribute_type(alloc, page, identifier.as_bytes())?;
-    page.text.push('=')?;
-    push_value(alloc, page, attribute.value(), behind)
+    push_attribute_type(printer, identifier.as_bytes())?;
+    printer.push('=')?;
+    push_value(printer, attribute.value(), behind)
 }
 
 /// Adds a value: the characters of a string type, or else `#` and its encoding. Contents octets that
 /// are none of its type are noted.
 pub fn push_value(
-    alloc: Global,
-    page: &mut Page,
+    printer: &mut Printer<'_>,
     value: &AnyRef<'_>,
     behind: Behind,
 ) -> Result<(), AllocError> {
-    note_value(page, value)?;
+    note_value(printer.page, value)?;
     let octets = value.value();
     match value.header().tag {
-        Tag::BmpString => push_units(alloc, page, value, behind),
+        Tag::BmpString => push_units(printer, value, behind),
         tag if is_text(tag, octets) => match str::from_utf8(octets) {
-            Ok(characters) => push_escaped(page, characters, behind),
-            Err(_) => push_encoding(alloc, page, value),
+            Ok(characters) => push_escaped(printer.page, characters, behind),
+            Err(_) => push_encoding(printer, value),
         },
-        _ => push_encoding(alloc, page, value),
+        _ => push_encoding(printer, value),
     }
 }
 
@@ -140,16 +133,15 @@ fn is_text(tag: Tag, octets: &[u8]) -> bool {
 
 /// Adds the characters of a BMPString; its encoding where these are not all characters.
 fn push_units(
-    alloc: Global,
-    page: &mut Page,
+    printer: &mut Printer<'_>,
     value: &AnyRef<'_>,
     behind: Behind,
 ) -> Result<(), AllocError> {
-    let mut characters = String::new(alloc);
+    let mut characters = String::new(printer.alloc);
     if push_characters(&mut characters, value.value())? {
-        return push_escaped(page, characters.as_str(), behind);
+        return push_escaped(printer.page, characters.as_str(), behind);
     }
-    push_encoding(alloc, page, value)
+    push_encoding(printer, value)
 }
 
 /// Adds the character of each two octets, and answers whether these are all.
@@ -165,10 +157,10 @@ fn push_characters(characters: &mut String, octets: &[u8]) -> Result<bool, Alloc
 }
 
 /// Adds `#` and the digits of an encoding.
-pub fn push_encoding(alloc: Global, page: &mut Page, value: &AnyRef<'_>) -> Result<(), AllocError> {
-    page.text.push('#')?;
-    match value.to_der(alloc) {
-        Ok(octets) => push_digits(page, octets.as_slice()),
+pub fn push_encoding(printer: &mut Printer<'_>, value: &AnyRef<'_>) -> Result<(), AllocError> {
+    printer.push('#')?;
+    match value.to_der(printer.alloc) {
+        Ok(octets) => push_digits(printer.page, octets.as_slice()),
         Err(_) => Err(AllocError),
     }
 }

@@ -4,99 +4,89 @@ use crate::characters::{Behind, push_escaped};
 use crate::hexadecimal::push_digits;
 use crate::identifiers::push_identifier;
 use crate::names::{push_places, push_value};
-use crate::page::{Inner, Page, push_malformed};
+use crate::page::{Inner, Page};
+use crate::printer::Printer;
 use der_asn1_types::{Encode, FromDer};
 use der_extensions::extension::{GeneralName, GeneralNames, SubjectAltName};
-use std::alloc::{AllocError, Global};
+use std::alloc::AllocError;
 use std::fmt::Write;
 use std::net::Ipv6Addr;
 
 /// Adds the names; `malformed` and the fault where the octets are no names.
-pub fn push_other_names(
-    alloc: Global,
-    page: &mut Page,
-    inner: Inner<'_>,
-) -> Result<(), AllocError> {
-    match SubjectAltName::from_der(alloc, inner.octets) {
-        Ok(names) => push_names(alloc, page, "", &names),
-        Err(error) => {
-            page.text.push_str(", ")?;
-            push_malformed(page, inner.begin, error)
-        }
+pub fn push_other_names(printer: &mut Printer<'_>, inner: Inner<'_>) -> Result<(), AllocError> {
+    match SubjectAltName::from_der(printer.alloc, inner.octets) {
+        Ok(names) => push_names(printer, "", &names),
+        Err(error) => printer.push_malformed_value(inner, error),
     }
 }
 
 /// Adds each of the names, after a comma and what they are names of.
 pub fn push_names(
-    alloc: Global,
-    page: &mut Page,
+    printer: &mut Printer<'_>,
     of: &str,
     names: &GeneralNames<'_>,
 ) -> Result<(), AllocError> {
-    for item in names.items().iter(alloc) {
+    for item in names.items().iter(printer.alloc) {
         let Ok(name) = item else {
             // It was read before.
             return Err(AllocError);
         };
-        push_name_of(alloc, page, of, &name)?;
+        push_name_of(printer, of, &name)?;
     }
     Ok(())
 }
 
 fn push_name_of(
-    alloc: Global,
-    page: &mut Page,
+    printer: &mut Printer<'_>,
     of: &str,
     name: &GeneralName<'_>,
 ) -> Result<(), AllocError> {
-    page.text.push_str(", ")?;
-    page.text.push_str(of)?;
-    push_other_name(alloc, page, name)
+    printer.push_str(", ")?;
+    printer.push_str(of)?;
+    push_other_name(printer, name)
 }
 
 /// Adds a name: what it is of, and its value, behind which a word may stand.
 pub fn push_other_name(
-    alloc: Global,
-    page: &mut Page,
+    printer: &mut Printer<'_>,
     name: &GeneralName<'_>,
 ) -> Result<(), AllocError> {
     match name {
         GeneralName::OtherName(other) => {
-            page.text.push_str("other ")?;
+            printer.push_str("other ")?;
             let identifier = other.value.type_id();
-            push_identifier(alloc, page, identifier.as_bytes())?;
-            page.text.push(' ')?;
-            push_value(alloc, page, other.value.value(), Behind::Word)
+            push_identifier(printer, identifier.as_bytes())?;
+            printer.push(' ')?;
+            push_value(printer, other.value.value(), Behind::Word)
         }
-        GeneralName::Rfc822Name(mail) => push_text(page, "mail ", mail.value.as_str()),
-        GeneralName::DnsName(host) => push_text(page, "host ", host.value.as_str()),
+        GeneralName::Rfc822Name(mail) => push_text(printer.page, "mail ", mail.value.as_str()),
+        GeneralName::DnsName(host) => push_text(printer.page, "host ", host.value.as_str()),
         GeneralName::DirectoryName(directory) => {
-            page.text.push_str("directory ")?;
-            push_places(alloc, page, &directory.fields.first, Behind::Word)
+            printer.push_str("directory ")?;
+            push_places(printer, &directory.fields.first, Behind::Word)
         }
         GeneralName::UniformResourceIdentifier(resource) => {
-            push_text(page, "resource ", resource.value.as_str())
+            push_text(printer.page, "resource ", resource.value.as_str())
         }
-        GeneralName::IpAddress(address) => push_address(page, address.value.as_bytes()),
+        GeneralName::IpAddress(address) => push_address(printer.page, address.value.as_bytes()),
         GeneralName::RegisteredId(identifier) => {
-            page.text.push_str("identifier ")?;
-            push_identifier(alloc, page, identifier.value.as_bytes())
+            printer.push_str("identifier ")?;
+            push_identifier(printer, identifier.value.as_bytes())
         }
-        GeneralName::X400Address(_) => push_whole(alloc, page, "address of X.400 #", name),
-        GeneralName::EdiPartyName(_) => push_whole(alloc, page, "party of EDI #", name),
+        GeneralName::X400Address(_) => push_whole(printer, "address of X.400 #", name),
+        GeneralName::EdiPartyName(_) => push_whole(printer, "party of EDI #", name),
     }
 }
 
 /// Adds a name of a kind that is kept as it is encoded: its encoding.
 fn push_whole(
-    alloc: Global,
-    page: &mut Page,
+    printer: &mut Printer<'_>,
     kind: &str,
     name: &GeneralName<'_>,
 ) -> Result<(), AllocError> {
-    page.text.push_str(kind)?;
-    match name.to_der(alloc) {
-        Ok(octets) => push_digits(page, octets.as_slice()),
+    printer.push_str(kind)?;
+    match name.to_der(printer.alloc) {
+        Ok(octets) => push_digits(printer.page, octets.as_slice()),
         Err(_) => Err(AllocError),
     }
 }

@@ -3,6 +3,7 @@
 use crate::asked::Asked;
 use crate::early::{EARLY, is_early};
 use crate::encoding_rules::words_of_ber;
+use crate::field_name::FieldName;
 use crate::place::Place;
 use der_asn1_types::{Error, ErrorKind, Tag};
 use std::alloc::{AllocError, Global};
@@ -49,7 +50,7 @@ pub enum ItemKind {
     /// A message: what a person calls it, and where it stands.
     Message(Place),
     /// A field of a message: its label, and what it says, and where it stands.
-    Field(Place),
+    Field(FieldName, Place),
     /// That a message, or an input, is refused, and why.
     Refused,
 }
@@ -118,6 +119,16 @@ impl Page {
         Ok(())
     }
 
+    /// Begins a field at a place. What it says is added to the text, and a line feed.
+    pub fn begin_field(&mut self, field: FieldName, place: &Place) -> Result<(), AllocError> {
+        let begin = self.text.len();
+        field.push_label(&mut self.text)?;
+        let value = self.text.len();
+        let kind = ItemKind::Field(field, *place);
+        self.items.push(Item { kind, begin, value })?;
+        Ok(())
+    }
+
     /// Notes what is wrong with the last item.
     pub fn say(
         &mut self,
@@ -172,26 +183,39 @@ impl Page {
             self.part(fault.words)
         }
     }
+}
 
-    /// What the item of this number says, without the line feed.
-    pub fn value_of(&self, index: usize, item: &Item) -> &str {
-        let end = match self.items.get(index.saturating_add(1)) {
+/// An item of a page, and what it is called and says there.
+#[derive(Clone, Copy)]
+pub struct Entry<'a> {
+    /// The page.
+    pub page: &'a Page,
+    /// How many items stand before it.
+    pub index: usize,
+    /// The item.
+    pub item: Item,
+}
+
+impl<'a> Entry<'a> {
+    /// What the item is called.
+    pub fn name(&self) -> &'a str {
+        self.page.part(Span {
+            begin: self.item.begin,
+            end: self.item.value,
+        })
+    }
+
+    /// What the item says, without the line feed.
+    pub fn value(&self) -> &'a str {
+        let end = match self.page.items.get(self.index.saturating_add(1)) {
             Some(next) => next.begin,
-            None => self.text.len(),
+            None => self.page.text.len(),
         };
-        let value = self.part(Span {
-            begin: item.value,
+        let value = self.page.part(Span {
+            begin: self.item.value,
             end,
         });
         value.strip_suffix("\n").unwrap_or(value)
-    }
-
-    /// What an item is called.
-    pub fn name_of(&self, item: &Item) -> &str {
-        self.part(Span {
-            begin: item.begin,
-            end: item.value,
-        })
     }
 }
 
@@ -229,7 +253,8 @@ pub fn push_malformed(page: &mut Page, begin: usize, error: Error) -> Result<(),
     push_fault(page, begin, &error, false)
 }
 
-/// The same of octets in which a time may stand: one before 1970 has words of its own.
+/// Adds `malformed` and what is wrong with octets in which a time may stand: one before 1970 has words of its
+/// own.
 pub fn push_malformed_inner(
     page: &mut Page,
     inner: Inner<'_>,

@@ -4,14 +4,15 @@
 use crate::characters::Behind;
 use crate::names::push_attributes;
 use crate::other_names::push_names;
-use crate::page::{Inner, Page, push_malformed};
+use crate::page::{Inner, Page};
+use crate::printer::Printer;
 use crate::usages::push_bits;
 use der_asn1_types::FromDer;
 use der_extensions::extension::{
     CrlDistributionPoints, DistributionPoint, DistributionPointName, IssuingDistributionPoint,
     ReasonFlags,
 };
-use std::alloc::{AllocError, Global};
+use std::alloc::AllocError;
 
 /// The names of the bits of a ReasonFlags, from bit 0 on.
 const REASONS: [&str; 9] = [
@@ -27,42 +28,28 @@ const REASONS: [&str; 9] = [
 ];
 
 /// Adds where lists are to be had.
-pub fn push_points(alloc: Global, page: &mut Page, inner: Inner<'_>) -> Result<(), AllocError> {
-    match CrlDistributionPoints::from_der(alloc, inner.octets) {
-        Ok(points) => push_each(alloc, page, &points),
-        Err(error) => {
-            page.text.push_str(", ")?;
-            push_malformed(page, inner.begin, error)
-        }
-    }
-}
-
-fn push_each(
-    alloc: Global,
-    page: &mut Page,
-    points: &CrlDistributionPoints<'_>,
-) -> Result<(), AllocError> {
-    for item in points.items().iter(alloc) {
+pub fn push_points(printer: &mut Printer<'_>, inner: Inner<'_>) -> Result<(), AllocError> {
+    let points = match CrlDistributionPoints::from_der(printer.alloc, inner.octets) {
+        Ok(points) => points,
+        Err(error) => return printer.push_malformed_value(inner, error),
+    };
+    for item in points.items().iter(printer.alloc) {
         let Ok(point) = item else {
             // It was read before.
             return Err(AllocError);
         };
-        push_point(alloc, page, &point)?;
+        push_point(printer, &point)?;
     }
     Ok(())
 }
 
-fn push_point(
-    alloc: Global,
-    page: &mut Page,
-    point: &DistributionPoint<'_>,
-) -> Result<(), AllocError> {
+fn push_point(printer: &mut Printer<'_>, point: &DistributionPoint<'_>) -> Result<(), AllocError> {
     if let Some(name) = point.distribution_point() {
-        push_point_name(alloc, page, name)?;
+        push_point_name(printer, name)?;
     }
-    push_reasons(page, ", reasons", point.reasons())?;
+    push_reasons(printer.page, ", reasons", point.reasons())?;
     match point.crl_issuer() {
-        Some(names) => push_names(alloc, page, "issuer ", names),
+        Some(names) => push_names(printer, "issuer ", names),
         None => Ok(()),
     }
 }
@@ -83,22 +70,15 @@ fn push_reasons(
 }
 
 /// Adds where a list is to be had that has this extension, and what it has entries of.
-pub fn push_issuing_point(
-    alloc: Global,
-    page: &mut Page,
-    inner: Inner<'_>,
-) -> Result<(), AllocError> {
-    match IssuingDistributionPoint::from_der(alloc, inner.octets) {
+pub fn push_issuing_point(printer: &mut Printer<'_>, inner: Inner<'_>) -> Result<(), AllocError> {
+    match IssuingDistributionPoint::from_der(printer.alloc, inner.octets) {
         Ok(point) => {
             if let Some(name) = point.distribution_point() {
-                push_point_name(alloc, page, name)?;
+                push_point_name(printer, name)?;
             }
-            push_scope(page, &point)
+            push_scope(printer.page, &point)
         }
-        Err(error) => {
-            page.text.push_str(", ")?;
-            push_malformed(page, inner.begin, error)
-        }
+        Err(error) => printer.push_malformed_value(inner, error),
     }
 }
 
@@ -123,15 +103,14 @@ fn push_if(page: &mut Page, is_so: bool, words: &str) -> Result<(), AllocError> 
 }
 
 fn push_point_name(
-    alloc: Global,
-    page: &mut Page,
+    printer: &mut Printer<'_>,
     name: &DistributionPointName<'_>,
 ) -> Result<(), AllocError> {
     match name {
-        DistributionPointName::FullName(names) => push_names(alloc, page, "", &names.value),
+        DistributionPointName::FullName(names) => push_names(printer, "", &names.value),
         DistributionPointName::NameRelativeToCrlIssuer(name) => {
-            page.text.push_str(", relative ")?;
-            push_attributes(alloc, page, &name.value, Behind::Mark)
+            printer.push_str(", relative ")?;
+            push_attributes(printer, &name.value, Behind::Mark)
         }
     }
 }

@@ -4,152 +4,122 @@
 use crate::characters::Behind;
 use crate::identifiers::push_identifier;
 use crate::names::push_value;
-use crate::page::{Inner, Page, push_malformed};
+use crate::page::Inner;
+use crate::printer::Printer;
 use der_asn1_types::asn1::AnyRef;
 use der_asn1_types::{Encode, ErrorKind, FromDer, Tag};
 use der_extensions::extension::{
     CertificatePolicies, PolicyInformation, PolicyMapping, PolicyMappings, PolicyQualifierInfo,
 };
 use der_lists::ListRef;
-use std::alloc::{AllocError, Global};
+use std::alloc::AllocError;
 
 /// Adds the policies, each with its qualifiers.
-pub fn push_policies(alloc: Global, page: &mut Page, inner: Inner<'_>) -> Result<(), AllocError> {
-    match CertificatePolicies::from_der(alloc, inner.octets) {
-        Ok(policies) => push_each(alloc, page, &policies),
-        Err(error) => {
-            page.text.push_str(", ")?;
-            push_malformed(page, inner.begin, error)
-        }
-    }
-}
-
-fn push_each(
-    alloc: Global,
-    page: &mut Page,
-    policies: &CertificatePolicies<'_>,
-) -> Result<(), AllocError> {
-    for item in policies.items().iter(alloc) {
+pub fn push_policies(printer: &mut Printer<'_>, inner: Inner<'_>) -> Result<(), AllocError> {
+    let policies = match CertificatePolicies::from_der(printer.alloc, inner.octets) {
+        Ok(policies) => policies,
+        Err(error) => return printer.push_malformed_value(inner, error),
+    };
+    for item in policies.items().iter(printer.alloc) {
         let Ok(policy) = item else {
             // It was read before.
             return Err(AllocError);
         };
-        push_policy(alloc, page, &policy)?;
+        push_policy(printer, &policy)?;
     }
     Ok(())
 }
 
 fn push_policy(
-    alloc: Global,
-    page: &mut Page,
+    printer: &mut Printer<'_>,
     policy: &PolicyInformation<'_>,
 ) -> Result<(), AllocError> {
-    page.text.push_str(", ")?;
+    printer.push_str(", ")?;
     let identifier = policy.policy_identifier();
-    push_identifier(alloc, page, identifier.as_bytes())?;
+    push_identifier(printer, identifier.as_bytes())?;
     match policy.policy_qualifiers() {
-        Some(qualifiers) => push_qualifiers(alloc, page, qualifiers.list()),
+        Some(qualifiers) => push_qualifiers(printer, qualifiers.list()),
         None => Ok(()),
     }
 }
 
 fn push_qualifiers<'a>(
-    alloc: Global,
-    page: &mut Page,
+    printer: &mut Printer<'_>,
     qualifiers: &ListRef<'a, PolicyQualifierInfo<'a>>,
 ) -> Result<(), AllocError> {
-    for item in qualifiers.iter(alloc) {
+    for item in qualifiers.iter(printer.alloc) {
         let Ok(qualifier) = item else {
             // It was read before.
             return Err(AllocError);
         };
-        push_qualifier_info(alloc, page, &qualifier)?;
+        push_qualifier_info(printer, &qualifier)?;
     }
     Ok(())
 }
 
 /// Adds what a qualifier is, and its characters or its encoding.
 fn push_qualifier_info(
-    alloc: Global,
-    page: &mut Page,
+    printer: &mut Printer<'_>,
     qualifier: &PolicyQualifierInfo<'_>,
 ) -> Result<(), AllocError> {
-    page.text.push_str(" with ")?;
+    printer.push_str(" with ")?;
     let identifier = qualifier.policy_qualifier_id();
-    push_identifier(alloc, page, identifier.as_bytes())?;
-    page.text.push(' ')?;
-    push_qualifier(alloc, page, qualifier.qualifier())
+    push_identifier(printer, identifier.as_bytes())?;
+    printer.push(' ')?;
+    push_qualifier(printer, qualifier.qualifier())
 }
 
 /// Adds a qualifier: its characters; of a notice for users, which is a SEQUENCE, those of its parts.
-fn push_qualifier(
-    alloc: Global,
-    page: &mut Page,
-    qualifier: &AnyRef<'_>,
-) -> Result<(), AllocError> {
+fn push_qualifier(printer: &mut Printer<'_>, qualifier: &AnyRef<'_>) -> Result<(), AllocError> {
     if qualifier.header().tag != Tag::Sequence {
-        return push_value(alloc, page, qualifier, Behind::Word);
+        return push_value(printer, qualifier, Behind::Word);
     }
-    let Ok(octets) = qualifier.to_der(alloc) else {
+    let Ok(octets) = qualifier.to_der(printer.alloc) else {
         return Err(AllocError);
     };
-    match Vec::<AnyRef<'_>>::from_der(alloc, octets.as_slice()) {
-        Ok(parts) => push_parts(alloc, page, parts.as_slice()),
+    match Vec::<AnyRef<'_>>::from_der(printer.alloc, octets.as_slice()) {
+        Ok(parts) => push_parts(printer, parts.as_slice()),
         Err(error) if error.kind() == ErrorKind::Memory => Err(AllocError),
-        Err(_) => push_value(alloc, page, qualifier, Behind::Word),
+        Err(_) => push_value(printer, qualifier, Behind::Word),
     }
 }
 
 /// Adds the parts of a notice, with `and` between two: a text as it is, others as they are encoded.
-fn push_parts(alloc: Global, page: &mut Page, parts: &[AnyRef<'_>]) -> Result<(), AllocError> {
+fn push_parts(printer: &mut Printer<'_>, parts: &[AnyRef<'_>]) -> Result<(), AllocError> {
     let mut is_first = true;
     for part in parts {
         if !is_first {
-            page.text.push_str(" and ")?;
+            printer.push_str(" and ")?;
         }
         is_first = false;
-        push_value(alloc, page, part, Behind::Word)?;
+        push_value(printer, part, Behind::Word)?;
     }
     Ok(())
 }
 
 /// Adds the policies that the issuer takes for others of the subject.
-pub fn push_mappings(alloc: Global, page: &mut Page, inner: Inner<'_>) -> Result<(), AllocError> {
-    match PolicyMappings::from_der(alloc, inner.octets) {
-        Ok(mappings) => push_each_mapping(alloc, page, &mappings),
-        Err(error) => {
-            page.text.push_str(", ")?;
-            push_malformed(page, inner.begin, error)
-        }
-    }
-}
-
-fn push_each_mapping(
-    alloc: Global,
-    page: &mut Page,
-    mappings: &PolicyMappings<'_>,
-) -> Result<(), AllocError> {
-    for item in mappings.items().iter(alloc) {
+pub fn push_mappings(printer: &mut Printer<'_>, inner: Inner<'_>) -> Result<(), AllocError> {
+    let mappings = match PolicyMappings::from_der(printer.alloc, inner.octets) {
+        Ok(mappings) => mappings,
+        Err(error) => return printer.push_malformed_value(inner, error),
+    };
+    for item in mappings.items().iter(printer.alloc) {
         let Ok(mapping) = item else {
             // It was read before.
             return Err(AllocError);
         };
-        push_mapping(alloc, page, &mapping)?;
+        push_mapping(printer, &mapping)?;
     }
     Ok(())
 }
 
-fn push_mapping(
-    alloc: Global,
-    page: &mut Page,
-    mapping: &PolicyMapping<'_>,
-) -> Result<(), AllocError> {
+fn push_mapping(printer: &mut Printer<'_>, mapping: &PolicyMapping<'_>) -> Result<(), AllocError> {
     let (issuer, subject) = (
         mapping.issuer_domain_policy(),
         mapping.subject_domain_policy(),
     );
-    page.text.push_str(", issuer's ")?;
-    push_identifier(alloc, page, issuer.as_bytes())?;
-    page.text.push_str(" is subject's ")?;
-    push_identifier(alloc, page, subject.as_bytes())
+    printer.push_str(", issuer's ")?;
+    push_identifier(printer, issuer.as_bytes())?;
+    printer.push_str(" is subject's ")?;
+    push_identifier(printer, subject.as_bytes())
 }

@@ -4,12 +4,63 @@ use crate::any_values::push_any;
 use crate::extensions::push_unknown;
 use crate::page::{Inner, Page, push_malformed};
 use crate::policies::push_policies;
+use crate::printer::Printer;
 use crate::transparency::push_stamps;
 use crate::values::{contents, sizes};
 use der_asn1_types::asn1::{AnyRef, BitStringRef};
 use der_asn1_types::{FromDer, Tag};
-use std::alloc::{AllocError, Global};
+use der_ocsp::ocsp::constants as ocsp;
+use der_pkcs::algorithm::constants as transparency;
+use std::alloc::AllocError;
 use std::fmt::Write;
+
+/// The list of timestamps of a certificate (RFC 6962 section 3.3).
+const ID_EMBEDDED_SCTS: &[u8] = &transparency::ID_EMBEDDED_SCTS;
+
+/// The list of timestamps of an OCSP response (RFC 6962 section 3.3).
+const ID_OCSP_SCTS: &[u8] = &transparency::ID_OCSP_SCTS;
+
+/// The mark of a precertificate (RFC 6962 section 3.1).
+const ID_POISON: &[u8] = &transparency::ID_POISON;
+
+/// A nonce of OCSP (RFC 6960 section 4.4.1).
+const ID_PKIX_OCSP_NONCE: &[u8] = &ocsp::ID_PKIX_OCSP_NONCE;
+
+/// The types of response that are accepted (RFC 6960 section 4.4.3).
+const ID_PKIX_OCSP_RESPONSE: &[u8] = &ocsp::ID_PKIX_OCSP_RESPONSE;
+
+/// That a responder is not checked (RFC 6960 section 4.2.2.2.1).
+const ID_PKIX_OCSP_NOCHECK: &[u8] = &ocsp::ID_PKIX_OCSP_NOCHECK;
+
+/// An archive cutoff (RFC 6960 section 4.4.4).
+const ID_PKIX_OCSP_ARCHIVE_CUTOFF: &[u8] = &ocsp::ID_PKIX_OCSP_ARCHIVE_CUTOFF;
+
+/// tlsFeature, 1.3.6.1.5.5.7.1.24 (RFC 7633 section 6).
+const TLS_FEATURE: &[u8] = &[0x2b, 6, 1, 5, 5, 7, 1, 24];
+
+/// What stands before the last arc of each extension of Netscape: 2.16.840.1.113730.1.
+const NETSCAPE: &[u8] = &[0x60, 0x86, 0x48, 1, 0x86, 0xf8, 0x42, 1];
+
+/// netscapeCertType, 2.16.840.1.113730.1.1.
+const NETSCAPE_TYPE: &[u8] = &[0x60, 0x86, 0x48, 1, 0x86, 0xf8, 0x42, 1, 1];
+
+/// msCertificateTemplateName, 1.3.6.1.4.1.311.20.2.
+const MS_TEMPLATE_NAME: &[u8] = &[0x2b, 6, 1, 4, 1, 0x82, 0x37, 20, 2];
+
+/// msCaVersion, 1.3.6.1.4.1.311.21.1.
+const MS_CA_VERSION: &[u8] = &[0x2b, 6, 1, 4, 1, 0x82, 0x37, 21, 1];
+
+/// msPreviousCertHash, 1.3.6.1.4.1.311.21.2.
+const MS_PREVIOUS_HASH: &[u8] = &[0x2b, 6, 1, 4, 1, 0x82, 0x37, 21, 2];
+
+/// msCrlNextPublish, 1.3.6.1.4.1.311.21.4.
+const MS_NEXT_PUBLISH: &[u8] = &[0x2b, 6, 1, 4, 1, 0x82, 0x37, 21, 4];
+
+/// msCertificateTemplate, 1.3.6.1.4.1.311.21.7.
+const MS_TEMPLATE: &[u8] = &[0x2b, 6, 1, 4, 1, 0x82, 0x37, 21, 7];
+
+/// msApplicationPolicies, 1.3.6.1.4.1.311.21.10.
+const MS_POLICIES: &[u8] = &[0x2b, 6, 1, 4, 1, 0x82, 0x37, 21, 10];
 
 /// The names of the bits of a Netscape certificate type, from bit 0 on.
 const NETSCAPE_TYPES: [&str; 8] = [
@@ -27,50 +78,48 @@ const NETSCAPE_TYPES: [&str; 8] = [
 /// Transparency (RFC 6962), of Netscape (2.16.840.1.113730.1), of Microsoft (1.3.6.1.4.1.311), of OCSP
 /// (RFC 6960 section 4.4) and of TLS (RFC 7633); of one that is not known, the octets.
 pub fn push_private(
-    alloc: Global,
-    page: &mut Page,
+    printer: &mut Printer<'_>,
     identifier: &[u8],
     inner: Inner<'_>,
 ) -> Result<(), AllocError> {
     match identifier {
-        [0x2b, 6, 1, 4, 1, 0xd6, 0x79, 2, 4, 2 | 5] => push_stamps(alloc, page, inner),
-        [0x2b, 6, 1, 4, 1, 0xd6, 0x79, 2, 4, 3] => push_one(alloc, page, inner),
-        [0x60, 0x86, 0x48, 1, 0x86, 0xf8, 0x42, 1, 1] => push_netscape_type(alloc, page, inner),
-        [0x60, 0x86, 0x48, 1, 0x86, 0xf8, 0x42, 1, _] => push_one(alloc, page, inner),
-        [0x2b, 6, 1, 4, 1, 0x82, 0x37, 20, 2] => push_one(alloc, page, inner),
-        [0x2b, 6, 1, 4, 1, 0x82, 0x37, 21, 1] => push_version(alloc, page, inner),
-        [0x2b, 6, 1, 4, 1, 0x82, 0x37, 21, 2 | 4] => push_one(alloc, page, inner),
-        [0x2b, 6, 1, 4, 1, 0x82, 0x37, 21, 7] => push_each(alloc, page, inner),
-        [0x2b, 6, 1, 4, 1, 0x82, 0x37, 21, 10] => push_policies(alloc, page, inner),
-        [0x2b, 6, 1, 5, 5, 7, 48, 1, 2 | 5 | 6] => push_one(alloc, page, inner),
-        [0x2b, 6, 1, 5, 5, 7, 48, 1, 4] => push_each(alloc, page, inner),
-        [0x2b, 6, 1, 5, 5, 7, 1, 24] => push_each(alloc, page, inner),
-        _ => push_unknown(page, inner),
+        ID_EMBEDDED_SCTS | ID_OCSP_SCTS => push_stamps(printer, inner),
+        NETSCAPE_TYPE => push_netscape_type(printer, inner),
+        MS_CA_VERSION => push_version(printer, inner),
+        MS_POLICIES => push_policies(printer, inner),
+        MS_TEMPLATE | ID_PKIX_OCSP_RESPONSE | TLS_FEATURE => push_each(printer, inner),
+        ID_POISON => push_one(printer, inner),
+        ID_PKIX_OCSP_NONCE | ID_PKIX_OCSP_NOCHECK | ID_PKIX_OCSP_ARCHIVE_CUTOFF => {
+            push_one(printer, inner)
+        }
+        MS_TEMPLATE_NAME | MS_PREVIOUS_HASH | MS_NEXT_PUBLISH => push_one(printer, inner),
+        [front @ .., _] if front == NETSCAPE => push_one(printer, inner),
+        _ => push_unknown(printer.page, inner),
     }
 }
 
 /// Adds a value of a type that its tag tells.
-fn push_one(alloc: Global, page: &mut Page, inner: Inner<'_>) -> Result<(), AllocError> {
-    page.text.push_str(", ")?;
-    match AnyRef::from_der(alloc, inner.octets) {
+fn push_one(printer: &mut Printer<'_>, inner: Inner<'_>) -> Result<(), AllocError> {
+    printer.push_str(", ")?;
+    match AnyRef::from_der(printer.alloc, inner.octets) {
         Ok(value) => {
             let end = inner.begin.saturating_add(inner.octets.len());
-            push_any(alloc, page, Some(end), &value)
+            push_any(printer, Some(end), &value)
         }
-        Err(error) => push_malformed(page, inner.begin, error),
+        Err(error) => push_malformed(printer.page, inner.begin, error),
     }
 }
 
 /// Adds each value of a SEQUENCE of values of types that their tags tell.
-fn push_each(alloc: Global, page: &mut Page, inner: Inner<'_>) -> Result<(), AllocError> {
-    match AnyRef::from_der(alloc, inner.octets) {
-        Ok(list) if list.header().tag == Tag::Sequence => push_items(alloc, page, inner),
-        Ok(_) => push_one(alloc, page, inner),
-        Err(_) => push_one(alloc, page, inner),
+fn push_each(printer: &mut Printer<'_>, inner: Inner<'_>) -> Result<(), AllocError> {
+    match AnyRef::from_der(printer.alloc, inner.octets) {
+        Ok(list) if list.header().tag == Tag::Sequence => push_items(printer, inner),
+        Ok(_) => push_one(printer, inner),
+        Err(_) => push_one(printer, inner),
     }
 }
 
-fn push_items(alloc: Global, page: &mut Page, inner: Inner<'_>) -> Result<(), AllocError> {
+fn push_items(printer: &mut Printer<'_>, inner: Inner<'_>) -> Result<(), AllocError> {
     let mut rest = contents(inner.octets);
     for _ in 0..inner.octets.len() {
         if rest.is_empty() {
@@ -82,7 +131,7 @@ fn push_items(alloc: Global, page: &mut Page, inner: Inner<'_>) -> Result<(), Al
             octets: &rest[..count],
             begin: inner.begin.saturating_add(before),
         };
-        push_one(alloc, page, item)?;
+        push_one(printer, item)?;
         if count == 0 {
             break;
         }
@@ -92,13 +141,10 @@ fn push_items(alloc: Global, page: &mut Page, inner: Inner<'_>) -> Result<(), Al
 }
 
 /// Adds the names of the bits that are set.
-fn push_netscape_type(alloc: Global, page: &mut Page, inner: Inner<'_>) -> Result<(), AllocError> {
-    match BitStringRef::from_der(alloc, inner.octets) {
-        Ok(bits) => push_types(page, bits.raw_bytes()),
-        Err(error) => {
-            page.text.push_str(", ")?;
-            push_malformed(page, inner.begin, error)
-        }
+fn push_netscape_type(printer: &mut Printer<'_>, inner: Inner<'_>) -> Result<(), AllocError> {
+    match BitStringRef::from_der(printer.alloc, inner.octets) {
+        Ok(bits) => push_types(printer.page, bits.raw_bytes()),
+        Err(error) => printer.push_malformed_value(inner, error),
     }
 }
 
@@ -119,13 +165,13 @@ fn push_types(page: &mut Page, octets: &[u8]) -> Result<(), AllocError> {
 
 /// Adds the version of a CA of Microsoft: of its certificates, and of their keys, which are the upper 16
 /// bits of the number.
-fn push_version(alloc: Global, page: &mut Page, inner: Inner<'_>) -> Result<(), AllocError> {
-    page.text.push_str(", ")?;
-    match u32::from_der(alloc, inner.octets) {
+fn push_version(printer: &mut Printer<'_>, inner: Inner<'_>) -> Result<(), AllocError> {
+    printer.push_str(", ")?;
+    match u32::from_der(printer.alloc, inner.octets) {
         Ok(number) => {
             let (of_certificates, of_keys) = (number & 0xffff, number >> 16);
-            write!(page.text, "V{of_certificates}.{of_keys}")
+            write!(printer.page.text, "V{of_certificates}.{of_keys}")
         }
-        Err(error) => push_malformed(page, inner.begin, error),
+        Err(error) => push_malformed(printer.page, inner.begin, error),
     }
 }

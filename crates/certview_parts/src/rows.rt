@@ -2,158 +2,169 @@
 
 use crate::algorithms::bits_of;
 use crate::characters::{Behind, push_escaped};
+use crate::field_name::FieldName;
 use crate::hexadecimal::{push_digits, push_number_of, push_serial};
 use crate::identifiers::push_identifier;
-use crate::labels::push_label;
-use crate::page::{Inner, Page, push_malformed, push_malformed_inner};
+use crate::page::{Inner, push_malformed, push_malformed_inner};
 use crate::place::Place;
+use crate::printer::Printer;
 use crate::times::push_date_time;
 use der_asn1_types::{DateTime, Error};
-use std::alloc::{AllocError, Global};
+use std::alloc::AllocError;
 use std::fmt::Write;
 
 /// Adds a line with an identifier.
 pub fn push_identifier_row(
-    alloc: Global,
-    page: &mut Page,
+    printer: &mut Printer<'_>,
     place: &Place,
-    label: &str,
+    field: FieldName,
     identifier: &[u8],
 ) -> Result<(), AllocError> {
-    push_label(page, place, label)?;
-    push_identifier(alloc, page, identifier)?;
-    page.text.push('\n')
+    printer.begin(place, field)?;
+    push_identifier(printer, identifier)?;
+    printer.push('\n')
 }
 
 /// Adds a line with octets, and how many there are.
 pub fn push_octets_row(
-    page: &mut Page,
+    printer: &mut Printer<'_>,
     place: &Place,
-    label: &str,
+    field: FieldName,
     octets: &[u8],
 ) -> Result<(), AllocError> {
-    push_label(page, place, label)?;
+    printer.begin(place, field)?;
     let count = octets.len();
-    write!(page.text, "{count} octets, ")?;
-    push_digits(page, octets)?;
-    page.text.push('\n')
+    write!(printer.page.text, "{count} octets, ")?;
+    push_digits(printer.page, octets)?;
+    printer.push('\n')
 }
 
 /// Adds a line with how many octets there are, which are not shown.
 pub fn push_length_row(
-    page: &mut Page,
+    printer: &mut Printer<'_>,
     place: &Place,
-    label: &str,
+    field: FieldName,
     octets: &[u8],
 ) -> Result<(), AllocError> {
-    push_label(page, place, label)?;
+    printer.begin(place, field)?;
     let count = octets.len();
-    writeln!(page.text, "{count} octets")
+    writeln!(printer.page.text, "{count} octets")
 }
 
 /// Adds a line with characters.
 pub fn push_text_row(
-    page: &mut Page,
+    printer: &mut Printer<'_>,
     place: &Place,
-    label: &str,
+    field: FieldName,
     text: &str,
 ) -> Result<(), AllocError> {
-    push_label(page, place, label)?;
-    push_escaped(page, text, Behind::Mark)?;
-    page.text.push('\n')
+    printer.begin(place, field)?;
+    push_escaped(printer.page, text, Behind::Mark)?;
+    printer.push('\n')
 }
 
 /// Adds a line with a number that is not negative, of which these are the octets: in decimal, and where it
 /// has more than 16 octets how many bits it has, and its digits.
 pub fn push_number_row(
-    page: &mut Page,
+    printer: &mut Printer<'_>,
     place: &Place,
-    label: &str,
+    field: FieldName,
     octets: &[u8],
 ) -> Result<(), AllocError> {
-    push_label(page, place, label)?;
+    printer.begin(place, field)?;
     if octets.len() > 16 {
         let bits = bits_of(octets);
-        write!(page.text, "{bits} bits, ")?;
-        push_digits(page, octets)?;
+        write!(printer.page.text, "{bits} bits, ")?;
+        push_digits(printer.page, octets)?;
     } else {
-        push_number_of(page, octets)?;
+        push_number_of(printer.page, octets)?;
     }
-    page.text.push('\n')
+    printer.push('\n')
 }
 
-/// The same of a number of which these are the octets of the INTEGER; a negative one is shown as a serial
+/// Adds a line with the number that the contents octets of an INTEGER are; a negative one is shown as a serial
 /// number is.
 pub fn push_signed_row(
-    page: &mut Page,
+    printer: &mut Printer<'_>,
     place: &Place,
-    label: &str,
+    field: FieldName,
     octets: &[u8],
 ) -> Result<(), AllocError> {
     match octets {
-        [first, ..] if *first >= 0x80 => push_serial_row(page, place, label, octets),
-        [0, rest @ ..] if !rest.is_empty() => push_number_row(page, place, label, rest),
-        _ => push_number_row(page, place, label, octets),
+        [first, ..] if *first >= 0x80 => push_serial_row(printer, place, field, octets),
+        [0, rest @ ..] if !rest.is_empty() => push_number_row(printer, place, field, rest),
+        _ => push_number_row(printer, place, field, octets),
     }
 }
 
 /// Adds a line with a number.
 pub fn push_integer_row(
-    page: &mut Page,
+    printer: &mut Printer<'_>,
     place: &Place,
-    label: &str,
+    field: FieldName,
     number: u32,
 ) -> Result<(), AllocError> {
-    push_label(page, place, label)?;
-    writeln!(page.text, "{number}")
+    printer.begin(place, field)?;
+    writeln!(printer.page.text, "{number}")
 }
 
 /// Adds a line with the octets of a number, as those of a serial number are shown.
 pub fn push_serial_row(
-    page: &mut Page,
+    printer: &mut Printer<'_>,
     place: &Place,
-    label: &str,
+    field: FieldName,
     octets: &[u8],
 ) -> Result<(), AllocError> {
-    push_label(page, place, label)?;
-    push_serial(page, octets)?;
-    page.text.push('\n')
+    printer.begin(place, field)?;
+    push_serial(printer.page, octets)?;
+    printer.push('\n')
 }
 
 /// Adds a line with a date and time.
 pub fn push_time_row(
-    page: &mut Page,
+    printer: &mut Printer<'_>,
     place: &Place,
-    label: &str,
+    field: FieldName,
     time: &DateTime,
 ) -> Result<(), AllocError> {
-    push_label(page, place, label)?;
-    push_date_time(page, time)?;
-    page.text.push('\n')
+    printer.begin(place, field)?;
+    push_date_time(printer.page, time)?;
+    printer.push('\n')
 }
 
 /// Adds a line with what is wrong with octets that are read on their own, before which so many stand.
 pub fn push_malformed_row(
-    page: &mut Page,
+    printer: &mut Printer<'_>,
     place: &Place,
-    label: &str,
+    field: FieldName,
     begin: usize,
     error: Error,
 ) -> Result<(), AllocError> {
-    push_label(page, place, label)?;
-    push_malformed(page, begin, error)?;
-    page.text.push('\n')
+    printer.begin(place, field)?;
+    push_malformed(printer.page, begin, error)?;
+    printer.push('\n')
 }
 
-/// The same of octets in which a time may stand: one before 1970 has words of its own.
+/// Adds a line with what is wrong with octets in which a time may stand: one before 1970 has words of its own.
 pub fn push_malformed_inner_row(
-    page: &mut Page,
+    printer: &mut Printer<'_>,
     place: &Place,
-    label: &str,
+    field: FieldName,
     inner: Inner<'_>,
     error: Error,
 ) -> Result<(), AllocError> {
-    push_label(page, place, label)?;
-    push_malformed_inner(page, inner, error)?;
-    page.text.push('\n')
+    printer.begin(place, field)?;
+    push_malformed_inner(printer.page, inner, error)?;
+    printer.push('\n')
+}
+
+/// Adds a line with how many there are of what the field lists.
+pub fn push_count_row(
+    printer: &mut Printer<'_>,
+    place: &Place,
+    field: FieldName,
+    count: usize,
+) -> Result<(), AllocError> {
+    printer.begin(place, field)?;
+    writeln!(printer.page.text, "{count}")
 }

@@ -3,70 +3,64 @@
 use crate::algorithms::push_algorithm;
 use crate::bit_strings::push_bits;
 use crate::characters::Behind;
+use crate::field_name::FieldName;
 use crate::hexadecimal::push_serial;
-use crate::items::Items;
-use crate::labels::push_label;
 use crate::names::push_places;
-use crate::page::Page;
 use crate::place::{Place, nowhere};
+use crate::printer::Printer;
 use der_asn1_types::asn1::BitStringRef;
 use der_lists::ListRef;
 use der_pkix::AlgorithmIdentifier;
 use der_pkix::certificate::Certificate;
-use std::alloc::{AllocError, Global};
+use std::alloc::AllocError;
 
 /// Adds the lines of a signature that is a BIT STRING: its algorithm, where that stands, and itself.
 pub fn push_signature_rows(
-    alloc: Global,
-    page: &mut Page,
+    printer: &mut Printer<'_>,
     algorithm_place: &Place,
     algorithm: &AlgorithmIdentifier<'_>,
     place: &Place,
     signature: &BitStringRef<'_>,
 ) -> Result<(), AllocError> {
     push_algorithm(
-        alloc,
-        page,
+        printer,
         algorithm_place,
-        "signature algorithm",
+        FieldName::SignatureAlgorithm,
         algorithm,
     )?;
-    push_label(page, place, "signature")?;
-    push_bits(page, signature)?;
-    page.text.push('\n')
+    printer.begin(place, FieldName::Signature)?;
+    push_bits(printer.page, signature)?;
+    printer.push('\n')
 }
 
 /// Adds a line for each certificate of a list.
 pub fn push_certificate_rows<'a>(
-    alloc: Global,
-    page: &mut Page,
-    octets: &[u8],
+    printer: &mut Printer<'_>,
     list: &Place,
     certificates: &ListRef<'a, Certificate<'a>>,
 ) -> Result<(), AllocError> {
-    let mut places = Items::within(octets, list);
-    for item in certificates.iter(alloc) {
+    let mut places = printer.items(list);
+    for item in certificates.iter(printer.alloc) {
         let place = places.next_item().unwrap_or(nowhere());
         let Ok(certificate) = item else {
             // It was read before.
             return Err(AllocError);
         };
-        push_certificate_row(alloc, page, &place, &certificate)?;
+        push_certificate_row(printer, &place, &certificate)?;
     }
     Ok(())
 }
 
 /// Adds a line with the serial number and the subject of a certificate.
 pub fn push_certificate_row(
-    alloc: Global,
-    page: &mut Page,
+    printer: &mut Printer<'_>,
     place: &Place,
     certificate: &Certificate<'_>,
 ) -> Result<(), AllocError> {
     let signed = certificate.tbs_certificate();
-    push_label(page, place, "certificate")?;
-    push_serial(page, signed.serial_number().as_bytes())?;
-    page.text.push_str(", ")?;
-    push_places(alloc, page, signed.subject(), Behind::Mark)?;
-    page.text.push('\n')
+    printer.begin(place, FieldName::Certificate)?;
+    push_serial(printer.page, signed.serial_number().as_bytes())?;
+    printer.push_str(", ")?;
+    push_places(printer, signed.subject(), Behind::Mark)?;
+    printer.push('\n')
 }

@@ -1,37 +1,37 @@
 //! Times as text.
 
-use crate::labels::push_label;
+use crate::field_name::FieldName;
 use crate::page::Page;
 use crate::place::Place;
+use crate::printer::Printer;
 use der_asn1_types::DateTime;
 use der_pkix::certificate::{Time, Validity};
-use der_places::places_of;
+use der_simple::FractionalTimeRef;
 use std::alloc::AllocError;
 use std::fmt::Write;
 
 /// Adds a line for the first second of the validity, and one for the last.
 pub fn push_validity(
-    page: &mut Page,
-    octets: &[u8],
+    printer: &mut Printer<'_>,
     place: &Place,
     validity: &Validity,
 ) -> Result<(), AllocError> {
     let (begin, end) = (validity.not_before(), validity.not_after());
-    let at = places_of(validity, octets, place.offset);
-    push_moment(page, &at.not_before, "not before", &begin)?;
-    push_moment(page, &at.not_after, "not after", &end)
+    let at = printer.places_of(validity, place);
+    push_moment(printer, &at.not_before, FieldName::NotBefore, &begin)?;
+    push_moment(printer, &at.not_after, FieldName::NotAfter, &end)
 }
 
 /// Adds a line with a time.
 pub fn push_moment(
-    page: &mut Page,
+    printer: &mut Printer<'_>,
     place: &Place,
-    label: &str,
+    field: FieldName,
     time: &Time,
 ) -> Result<(), AllocError> {
-    push_label(page, place, label)?;
-    push_time(page, time)?;
-    page.text.push('\n')
+    printer.begin(place, field)?;
+    push_time(printer.page, time)?;
+    printer.push('\n')
 }
 
 /// Adds a time, as `2026-11-23 04:38:17 UTC`.
@@ -41,12 +41,34 @@ pub fn push_time(page: &mut Page, time: &Time) -> Result<(), AllocError> {
 
 /// Adds a date and time, as `push_time` does.
 pub fn push_date_time(page: &mut Page, time: &DateTime) -> Result<(), AllocError> {
+    push_seconds(page, time)?;
+    page.text.push_str(" UTC")
+}
+
+/// Adds a date and time to the second, without its zone.
+fn push_seconds(page: &mut Page, time: &DateTime) -> Result<(), AllocError> {
     let (year, month, day) = (time.year(), time.month(), time.day());
     let (hour, minutes, seconds) = (time.hour(), time.minutes(), time.seconds());
     write!(
         page.text,
-        "{year:04}-{month:02}-{day:02} {hour:02}:{minutes:02}:{seconds:02} UTC"
+        "{year:04}-{month:02}-{day:02} {hour:02}:{minutes:02}:{seconds:02}"
     )
+}
+
+/// Adds a time that may have a fraction of a second, as `2026-11-23 04:38:17.25 UTC`.
+pub fn push_fractional_time(
+    page: &mut Page,
+    time: FractionalTimeRef<'_>,
+) -> Result<(), AllocError> {
+    push_seconds(page, &time.seconds().to_date_time())?;
+    let digits = time.fraction();
+    if !digits.is_empty() {
+        page.text.push('.')?;
+    }
+    for digit in digits {
+        page.text.push(char::from(*digit))?;
+    }
+    page.text.push_str(" UTC")
 }
 
 /// The date and time, in either of its two forms.

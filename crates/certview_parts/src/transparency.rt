@@ -3,9 +3,10 @@
 
 use crate::hexadecimal::{push_digits, push_with_colons};
 use crate::page::{Inner, Page, push_malformed};
+use crate::printer::Printer;
 use der_asn1_types::asn1::OctetStringRef;
 use der_asn1_types::{DateTime, Error, ErrorKind, FromDer, Tag};
-use std::alloc::{AllocError, Global};
+use std::alloc::AllocError;
 use std::fmt::Write;
 use std::time::Duration;
 
@@ -29,16 +30,13 @@ struct Stamp<'a> {
 }
 
 /// Adds each timestamp of a list.
-pub fn push_stamps(alloc: Global, page: &mut Page, inner: Inner<'_>) -> Result<(), AllocError> {
-    match OctetStringRef::from_der(alloc, inner.octets) {
+pub fn push_stamps(printer: &mut Printer<'_>, inner: Inner<'_>) -> Result<(), AllocError> {
+    match OctetStringRef::from_der(printer.alloc, inner.octets) {
         Ok(string) => match counted(string.as_bytes()) {
-            Some((list, [])) => push_each(page, inner.begin, list),
-            _ => push_wrong(page, inner.begin),
+            Some((list, [])) => push_each(printer.page, inner.begin, list),
+            _ => push_wrong(printer.page, inner.begin),
         },
-        Err(error) => {
-            page.text.push_str(", ")?;
-            push_malformed(page, inner.begin, error)
-        }
+        Err(error) => printer.push_malformed_value(inner, error),
     }
 }
 

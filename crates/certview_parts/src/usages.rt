@@ -2,11 +2,12 @@
 //! 4.2.1.12), and other bits that have names.
 
 use crate::identifiers::push_identifier;
-use crate::page::{Inner, Page, push_malformed};
+use crate::page::{Inner, Page};
+use crate::printer::Printer;
 use der_asn1_types::FromDer;
 use der_asn1_types::asn1::NamedBitsRef;
 use der_extensions::extension::{ExtKeyUsageSyntax, KeyUsage};
-use std::alloc::{AllocError, Global};
+use std::alloc::AllocError;
 use std::fmt::Write;
 
 /// The names of the bits of a KeyUsage, from bit 0 on.
@@ -23,13 +24,10 @@ const USAGES: [&str; 9] = [
 ];
 
 /// Adds the names of the bits that are set.
-pub fn push_usage(alloc: Global, page: &mut Page, inner: Inner<'_>) -> Result<(), AllocError> {
-    match KeyUsage::from_der(alloc, inner.octets) {
-        Ok(usage) => push_bits(page, &USAGES, usage),
-        Err(error) => {
-            page.text.push_str(", ")?;
-            push_malformed(page, inner.begin, error)
-        }
+pub fn push_usage(printer: &mut Printer<'_>, inner: Inner<'_>) -> Result<(), AllocError> {
+    match KeyUsage::from_der(printer.alloc, inner.octets) {
+        Ok(usage) => push_bits(printer.page, &USAGES, usage),
+        Err(error) => printer.push_malformed_value(inner, error),
     }
 }
 
@@ -62,24 +60,14 @@ fn push_other_bits(
 }
 
 /// Adds the purposes.
-pub fn push_purposes(alloc: Global, page: &mut Page, inner: Inner<'_>) -> Result<(), AllocError> {
-    match ExtKeyUsageSyntax::from_der(alloc, inner.octets) {
-        Ok(purposes) => push_each(alloc, page, &purposes),
-        Err(error) => {
-            page.text.push_str(", ")?;
-            push_malformed(page, inner.begin, error)
-        }
-    }
-}
-
-fn push_each(
-    alloc: Global,
-    page: &mut Page,
-    purposes: &ExtKeyUsageSyntax<'_>,
-) -> Result<(), AllocError> {
-    for item in purposes.items().iter(alloc) {
+pub fn push_purposes(printer: &mut Printer<'_>, inner: Inner<'_>) -> Result<(), AllocError> {
+    let purposes = match ExtKeyUsageSyntax::from_der(printer.alloc, inner.octets) {
+        Ok(purposes) => purposes,
+        Err(error) => return printer.push_malformed_value(inner, error),
+    };
+    for item in purposes.items().iter(printer.alloc) {
         match item {
-            Ok(purpose) => push_purpose(alloc, page, purpose.as_bytes())?,
+            Ok(purpose) => push_purpose(printer, purpose.as_bytes())?,
             // It was read before.
             Err(_) => return Err(AllocError),
         }
@@ -87,7 +75,7 @@ fn push_each(
     Ok(())
 }
 
-fn push_purpose(alloc: Global, page: &mut Page, identifier: &[u8]) -> Result<(), AllocError> {
-    page.text.push_str(", ")?;
-    push_identifier(alloc, page, identifier)
+fn push_purpose(printer: &mut Printer<'_>, identifier: &[u8]) -> Result<(), AllocError> {
+    printer.push_str(", ")?;
+    push_identifier(printer, identifier)
 }

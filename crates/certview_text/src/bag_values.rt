@@ -4,154 +4,151 @@ use crate::cms_certificates::push_list_row;
 use crate::encrypted_key::push_encrypted_fields;
 use crate::keys::push_secret;
 use certview_parts::algorithms::push_algorithm;
-use certview_parts::page::Page;
-use certview_parts::place::{Place, contents_at, inner_at};
+use certview_parts::field_name::FieldName;
+use certview_parts::place::Place;
+use certview_parts::printer::Printer;
 use certview_parts::rows::{
     push_identifier_row, push_length_row, push_malformed_inner_row, push_malformed_row,
 };
 use certview_parts::signatures::push_certificate_row;
 use der_asn1_types::FromDer;
 use der_pkcs::encryption::EncryptedPrivateKeyInfo;
-use der_pkcs::pkcs12::constants::{X509_CERTIFICATE, X509_CRL};
+use der_pkcs::pkcs12::constants::{self, X509_CERTIFICATE, X509_CRL};
 use der_pkcs::pkcs12::{CertBag, CrlBag};
 use der_pkix::certificate::Certificate;
 use der_pkix::crl::CertificateList;
 use der_pkix::key::PrivateKeyInfo;
-use der_places::{contents_of, places_of};
-use std::alloc::{AllocError, Global};
+use std::alloc::AllocError;
 
-/// Adds the lines of a bag's value, by the identifier of the bag, one of 1.2.840.113549.1.12.10.1: of
-/// others, and of bags within a bag, how many octets there are.
+/// A private key (RFC 7292 section 4.2.1).
+const KEY_BAG: &[u8] = &constants::KEY_BAG;
+
+/// An encrypted private key (RFC 7292 section 4.2.2).
+const PKCS8_SHROUDED_KEY_BAG: &[u8] = &constants::PKCS8_SHROUDED_KEY_BAG;
+
+/// A certificate (RFC 7292 section 4.2.3).
+const CERT_BAG: &[u8] = &constants::CERT_BAG;
+
+/// A list of revoked certificates (RFC 7292 section 4.2.4).
+const CRL_BAG: &[u8] = &constants::CRL_BAG;
+
+/// Adds the lines of the value of a bag with this identifier: of others, and of bags within a bag, how many
+/// octets there are.
 pub fn push_bag_value(
-    alloc: Global,
-    page: &mut Page,
-    octets: &[u8],
+    printer: &mut Printer<'_>,
     place: &Place,
     identifier: &[u8],
 ) -> Result<(), AllocError> {
     match identifier {
-        [0x2a, 0x86, 0x48, 0x86, 0xf7, 0x0d, 1, 12, 10, 1, last] => match last {
-            1 => push_key_bag(alloc, page, octets, place),
-            2 => push_shrouded_key_bag(alloc, page, octets, place),
-            3 => push_certificate_bag(alloc, page, octets, place),
-            4 => push_list_bag(alloc, page, octets, place),
-            _ => push_length_row(page, place, "value", inner_at(octets, place).octets),
-        },
-        _ => push_length_row(page, place, "value", inner_at(octets, place).octets),
+        KEY_BAG => push_key_bag(printer, place),
+        PKCS8_SHROUDED_KEY_BAG => push_shrouded_key_bag(printer, place),
+        CERT_BAG => push_certificate_bag(printer, place),
+        CRL_BAG => push_list_bag(printer, place),
+        _ => {
+            let octets = printer.octets_at(place);
+            push_length_row(printer, place, FieldName::Value, octets)
+        }
     }
 }
 
 /// Adds the algorithm of a key, and how many octets it has.
-fn push_key_bag(
-    alloc: Global,
-    page: &mut Page,
-    octets: &[u8],
-    place: &Place,
-) -> Result<(), AllocError> {
-    let inner = inner_at(octets, place);
-    match PrivateKeyInfo::from_der(alloc, inner.octets) {
+fn push_key_bag(printer: &mut Printer<'_>, place: &Place) -> Result<(), AllocError> {
+    let inner = printer.inner_at(place);
+    match PrivateKeyInfo::from_der(printer.alloc, inner.octets) {
         Ok(key) => {
-            let at = places_of(&key, octets, place.offset);
+            let at = printer.places_of(&key, place);
             push_algorithm(
-                alloc,
-                page,
+                printer,
                 &at.private_key_algorithm,
-                "key algorithm",
+                FieldName::KeyAlgorithm,
                 key.private_key_algorithm(),
             )?;
             let count = key.private_key().as_bytes().len();
-            push_secret(page, &at.private_key, "privateKey", count)
+            push_secret(printer, &at.private_key, FieldName::PrivateKey, count)
         }
-        Err(error) => push_malformed_row(page, place, "key", inner.begin, error),
+        Err(error) => push_malformed_row(printer, place, FieldName::Key, inner.begin, error),
     }
 }
 
-fn push_shrouded_key_bag(
-    alloc: Global,
-    page: &mut Page,
-    octets: &[u8],
-    place: &Place,
-) -> Result<(), AllocError> {
-    let inner = inner_at(octets, place);
-    match EncryptedPrivateKeyInfo::from_der(alloc, inner.octets) {
-        Ok(key) => push_encrypted_fields(alloc, page, octets, place, &key),
-        Err(error) => push_malformed_row(page, place, "encrypted key", inner.begin, error),
+fn push_shrouded_key_bag(printer: &mut Printer<'_>, place: &Place) -> Result<(), AllocError> {
+    let inner = printer.inner_at(place);
+    match EncryptedPrivateKeyInfo::from_der(printer.alloc, inner.octets) {
+        Ok(key) => push_encrypted_fields(printer, place, &key),
+        Err(error) => push_malformed_row(
+            printer,
+            place,
+            FieldName::EncryptedKey,
+            inner.begin,
+            error,
+        ),
     }
 }
 
 /// Adds the line of a certificate, which an OCTET STRING holds; of another kind its identifier.
-fn push_certificate_bag(
-    alloc: Global,
-    page: &mut Page,
-    octets: &[u8],
-    place: &Place,
-) -> Result<(), AllocError> {
-    let inner = inner_at(octets, place);
-    match CertBag::from_der(alloc, inner.octets) {
+fn push_certificate_bag(printer: &mut Printer<'_>, place: &Place) -> Result<(), AllocError> {
+    let inner = printer.inner_at(place);
+    match CertBag::from_der(printer.alloc, inner.octets) {
         Ok(bag) if bag.cert_id().as_bytes() == X509_CERTIFICATE.as_slice() => {
-            let at = places_of(&bag, octets, place.offset);
-            let string = contents_of(octets, at.cert_value);
-            push_held_certificate(alloc, page, octets, &string)
+            let at = printer.places_of(&bag, place);
+            let string = printer.contents_of(at.cert_value);
+            push_held_certificate(printer, &string)
         }
         Ok(bag) => {
             let kind = bag.cert_id().as_bytes();
-            push_identifier_row(alloc, page, place, "certificate of another kind", kind)
+            push_identifier_row(printer, place, FieldName::CertificateOfAnotherKind, kind)
         }
-        Err(error) => push_malformed_row(page, place, "certificate", inner.begin, error),
+        Err(error) => push_malformed_row(
+            printer,
+            place,
+            FieldName::Certificate,
+            inner.begin,
+            error,
+        ),
     }
 }
 
-fn push_held_certificate(
-    alloc: Global,
-    page: &mut Page,
-    octets: &[u8],
-    string: &Place,
-) -> Result<(), AllocError> {
-    let inner = contents_at(octets, string);
-    match Certificate::from_der(alloc, inner.octets) {
+fn push_held_certificate(printer: &mut Printer<'_>, string: &Place) -> Result<(), AllocError> {
+    let inner = printer.contents_at(string);
+    match Certificate::from_der(printer.alloc, inner.octets) {
         Ok(certificate) => {
-            let place = contents_of(octets, *string);
-            push_certificate_row(alloc, page, &place, &certificate)
+            let place = printer.contents_of(*string);
+            push_certificate_row(printer, &place, &certificate)
         }
-        Err(error) => push_malformed_inner_row(page, string, "certificate", inner, error),
+        Err(error) => push_malformed_inner_row(
+            printer,
+            string,
+            FieldName::Certificate,
+            inner,
+            error,
+        ),
     }
 }
 
 /// Adds the line of a list of revoked certificates, which an OCTET STRING holds; of another kind its
 /// identifier.
-fn push_list_bag(
-    alloc: Global,
-    page: &mut Page,
-    octets: &[u8],
-    place: &Place,
-) -> Result<(), AllocError> {
-    let inner = inner_at(octets, place);
-    match CrlBag::from_der(alloc, inner.octets) {
+fn push_list_bag(printer: &mut Printer<'_>, place: &Place) -> Result<(), AllocError> {
+    let inner = printer.inner_at(place);
+    match CrlBag::from_der(printer.alloc, inner.octets) {
         Ok(bag) if bag.crl_id().as_bytes() == X509_CRL.as_slice() => {
-            let at = places_of(&bag, octets, place.offset);
-            let string = contents_of(octets, at.crl_value);
-            push_held_list(alloc, page, octets, &string)
+            let at = printer.places_of(&bag, place);
+            let string = printer.contents_of(at.crl_value);
+            push_held_list(printer, &string)
         }
         Ok(bag) => {
             let kind = bag.crl_id().as_bytes();
-            push_identifier_row(alloc, page, place, "list of another kind", kind)
+            push_identifier_row(printer, place, FieldName::ListOfAnotherKind, kind)
         }
-        Err(error) => push_malformed_row(page, place, "list", inner.begin, error),
+        Err(error) => push_malformed_row(printer, place, FieldName::List, inner.begin, error),
     }
 }
 
-fn push_held_list(
-    alloc: Global,
-    page: &mut Page,
-    octets: &[u8],
-    string: &Place,
-) -> Result<(), AllocError> {
-    let inner = contents_at(octets, string);
-    match CertificateList::from_der(alloc, inner.octets) {
+fn push_held_list(printer: &mut Printer<'_>, string: &Place) -> Result<(), AllocError> {
+    let inner = printer.contents_at(string);
+    match CertificateList::from_der(printer.alloc, inner.octets) {
         Ok(list) => {
-            let place = contents_of(octets, *string);
-            push_list_row(alloc, page, &place, &list)
+            let place = printer.contents_of(*string);
+            push_list_row(printer, &place, &list)
         }
-        Err(error) => push_malformed_inner_row(page, string, "list", inner, error),
+        Err(error) => push_malformed_inner_row(printer, string, FieldName::List, inner, error),
     }
 }

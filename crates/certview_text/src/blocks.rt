@@ -12,10 +12,11 @@ use crate::pem::{Block, Blocks, octets_of};
 use crate::readable::push_parts;
 use crate::text::push_message;
 use crate::trust_settings::{count_of_message, push_trust_settings};
+use certview_parts::field_name::FieldName;
 use certview_parts::hexadecimal::push_with_colons;
-use certview_parts::labels::push_label;
 use certview_parts::page::{ItemKind, Page, Span, push_words};
 use certview_parts::place::nowhere;
+use certview_parts::printer::Printer;
 use der_asn1_types::Error;
 use sha2::{Digest, Sha256};
 use std::alloc::{AllocError, Global};
@@ -25,32 +26,28 @@ use std::fmt::Write;
 ///
 /// # Errors
 /// `Refused` for octets that are no message of the kind; `Memory`.
-pub fn push_octets(
-    alloc: Global,
-    page: &mut Page,
-    has_fingerprint: bool,
-    kind: Kind,
-    octets: &[u8],
-) -> Result<(), Fault>
+pub fn push_octets(alloc: Global, page: &mut Page, kind: Kind, octets: &[u8]) -> Result<(), Fault>
     ensures { OnOk result (first_fault (grammar_of kind) octets.now ≡ None) }
 {
     match push_message(alloc, page, kind, octets) {
-        Ok(()) if has_fingerprint => Ok(push_fingerprint(page, kind, octets)?),
+        Ok(()) if page.asked.has_fingerprint => {
+            Ok(push_fingerprint(&mut Printer::new(alloc, page, octets), kind)?)
+        }
         Ok(()) => Ok(()),
         Err(fault) => Err(fault),
     }
 }
 
 /// Adds a line with the SHA-256 of a message's octets, if nothing in it is secret.
-fn push_fingerprint(page: &mut Page, kind: Kind, octets: &[u8]) -> Result<(), AllocError> {
+fn push_fingerprint(printer: &mut Printer<'_>, kind: Kind) -> Result<(), AllocError> {
     if kind.is_secret() {
         return Ok(());
     }
-    push_label(page, &nowhere(), "fingerprint")?;
-    page.text.push_str("SHA-256 ")?;
-    let digest = Sha256::digest(octets);
-    push_with_colons(page, digest.as_slice())?;
-    page.text.push('\n')
+    printer.begin(&nowhere(), FieldName::Fingerprint)?;
+    printer.push_str("SHA-256 ")?;
+    let digest = Sha256::digest(printer.octets);
+    push_with_colons(printer.page, digest.as_slice())?;
+    printer.push('\n')
 }
 
 /// Adds the messages of PEM text, block by block; of several each after a line that names it. A block
@@ -58,18 +55,13 @@ fn push_fingerprint(page: &mut Page, kind: Kind, octets: &[u8]) -> Result<(), Al
 ///
 /// # Errors
 /// The fault of the first block, where no block is shown; `Memory`.
-pub fn push_blocks(
-    alloc: Global,
-    page: &mut Page,
-    has_fingerprint: bool,
-    text: &[u8],
-) -> Result<(), Fault> {
+pub fn push_blocks(alloc: Global, page: &mut Page, text: &[u8]) -> Result<(), Fault> {
     let count = Blocks::count(text);
     if count < 2 {
-        return push_first(alloc, page, has_fingerprint, text);
+        return push_first(alloc, page, text);
     }
-    match push_each(alloc, page, has_fingerprint, text, count) {
-        Ok(0) => push_first(alloc, page, has_fingerprint, text),
+    match push_each(alloc, page, text, count) {
+        Ok(0) => push_first(alloc, page, text),
         Ok(_) => Ok(()),
         Err(error) => Err(Fault::from(error)),
     }
@@ -79,7 +71,6 @@ pub fn push_blocks(
 fn push_each(
     alloc: Global,
     page: &mut Page,
-    has_fingerprint: bool,
     text: &[u8],
     count: usize,
 ) -> Result<usize, AllocError> {
@@ -90,7 +81,7 @@ fn push_each(
             break;
         };
         push_heading(page, number, count, &block)?;
-        if push_or_tell(alloc, page, has_fingerprint, &block)? {
+        if push_or_tell(alloc, page, &block)? {
             shown = shown.saturating_add(1);
         }
     }
@@ -98,28 +89,18 @@ fn push_each(
 }
 
 /// Adds the message of the first block.
-fn push_first(
-    alloc: Global,
-    page: &mut Page,
-    has_fingerprint: bool,
-    text: &[u8],
-) -> Result<(), Fault> {
+fn push_first(alloc: Global, page: &mut Page, text: &[u8]) -> Result<(), Fault> {
     let mut blocks = Blocks::of(text);
     match blocks.next_block() {
-        Some(block) => push_block(alloc, page, has_fingerprint, &block),
+        Some(block) => push_block(alloc, page, &block),
         None => Err(Fault::NoEnd),
     }
 }
 
 /// Adds the message of one of several blocks, or the line of one that is refused; answers whether the
 /// message is shown.
-fn push_or_tell(
-    alloc: Global,
-    page: &mut Page,
-    has_fingerprint: bool,
-    block: &Block<'_>,
-) -> Result<bool, AllocError> {
-    match push_block(alloc, page, has_fingerprint, block) {
+fn push_or_tell(alloc: Global, page: &mut Page, block: &Block<'_>) -> Result<bool, AllocError> {
+    match push_block(alloc, page, block) {
         Ok(()) => Ok(true),
         Err(Fault::Memory) => Err(AllocError),
         Err(fault) => {
@@ -209,18 +190,13 @@ fn push_refusal(page: &mut Page, error: &Error, path: Path) -> Result<(), AllocE
 }
 
 /// Adds the message of a block, and the trust settings that may stand behind it.
-fn push_block(
-    alloc: Global,
-    page: &mut Page,
-    has_fingerprint: bool,
-    block: &Block<'_>,
-) -> Result<(), Fault> {
+fn push_block(alloc: Global, page: &mut Page, block: &Block<'_>) -> Result<(), Fault> {
     let Some(kind) = kind_with(block.label) else {
         return Err(Fault::UnknownLabel(Label::of(block.label)));
     };
     let message = octets_of(alloc, block)?;
     let octets = message.as_slice();
     let count = count_of_message(block.label, octets);
-    push_octets(alloc, page, has_fingerprint, kind, &octets[..count])?;
-    Ok(push_trust_settings(alloc, page, octets, count)?)
+    push_octets(alloc, page, kind, &octets[..count])?;
+    Ok(push_trust_settings(&mut Printer::new(alloc, page, octets), count)?)
 }

@@ -9,13 +9,14 @@ use crate::contents::push_content;
 use crate::fault::{Fault, refusal};
 use crate::kind::Kind;
 use crate::whole::push_title;
+use certview_parts::field_name::FieldName;
 use certview_parts::page::Page;
 use certview_parts::place::place_of_all;
+use certview_parts::printer::Printer;
 use certview_parts::rows::push_identifier_row;
 use der_asn1_types::FromDer;
 use der_cms::cms::ContentInfo;
 use der_cms::cms::laws::grammar_of_content_info;
-use der_places::{contents_of, places_of};
 use std::alloc::{AllocError, Global};
 
 /// Adds the fields of the ContentInfo that these octets are, a line each; of its content, as its type says.
@@ -29,22 +30,22 @@ pub fn push_cms(alloc: Global, page: &mut Page, octets: &[u8]) -> Result<(), Fau
 {
     grammar_of_content_info();
     match ContentInfo::from_der(alloc, octets) {
-        Ok(message) => Ok(push_fields(alloc, page, octets, &message)?),
+        Ok(message) => Ok(push_fields(&mut Printer::new(alloc, page, octets), &message)?),
         Err(error) => Err(refusal(Kind::Cms, octets, error)),
     }
 }
 
-fn push_fields(
-    alloc: Global,
-    page: &mut Page,
-    octets: &[u8],
-    message: &ContentInfo<'_>,
-) -> Result<(), AllocError> {
-    let whole = place_of_all(octets);
-    let at = places_of(message, octets, whole.offset);
-    push_title(page, &whole, Kind::Cms)?;
+fn push_fields(printer: &mut Printer<'_>, message: &ContentInfo<'_>) -> Result<(), AllocError> {
+    let whole = place_of_all(printer.octets);
+    let at = printer.places_of(message, &whole);
+    push_title(printer, &whole, Kind::Cms)?;
     let identifier = message.content_type().as_bytes();
-    push_identifier_row(alloc, page, &at.content_type, "content type", identifier)?;
-    let content = contents_of(octets, at.content);
-    push_content(alloc, page, octets, &content, identifier)
+    push_identifier_row(
+        printer,
+        &at.content_type,
+        FieldName::ContentType,
+        identifier,
+    )?;
+    let content = printer.contents_of(at.content);
+    push_content(printer, &content, identifier)
 }

@@ -5,45 +5,53 @@ use crate::digested_data::push_digested_data;
 use crate::encrypted_data::push_encrypted_data;
 use crate::enveloped_data::push_enveloped_data;
 use crate::signed_data::push_signed_data;
-use certview_parts::page::Page;
-use certview_parts::place::{Place, contents_at, inner_at};
+use certview_parts::field_name::FieldName;
+use certview_parts::place::Place;
+use certview_parts::printer::Printer;
 use certview_parts::rows::push_length_row;
-use std::alloc::{AllocError, Global};
+use der_cms::cms::constants as cms;
+use der_enveloped::authenticated::constants as authenticated;
+use der_enveloped::enveloped::constants as enveloped;
+use std::alloc::AllocError;
 
-/// Adds the lines of a content: by its type's identifier one of 1.2.840.113549.1.7, or authData,
-/// 1.2.840.113549.1.9.16.1.2 (RFC 5652); of another the number of its octets.
+/// Data (RFC 5652 section 4).
+const ID_DATA: &[u8] = &cms::ID_DATA;
+
+/// Signed data (RFC 5652 section 5.1).
+const ID_SIGNED_DATA: &[u8] = &cms::ID_SIGNED_DATA;
+
+/// Enveloped data (RFC 5652 section 6.1).
+const ID_ENVELOPED_DATA: &[u8] = &enveloped::ID_ENVELOPED_DATA;
+
+/// Digested data (RFC 5652 section 7).
+const ID_DIGESTED_DATA: &[u8] = &cms::ID_DIGESTED_DATA;
+
+/// Encrypted data (RFC 5652 section 8).
+const ID_ENCRYPTED_DATA: &[u8] = &cms::ID_ENCRYPTED_DATA;
+
+/// Authenticated data (RFC 5652 section 9.1).
+const ID_CT_AUTH_DATA: &[u8] = &authenticated::ID_CT_AUTH_DATA;
+
+/// Adds the lines of a content of the type with this identifier; of data and of another type the number of
+/// its octets.
 pub fn push_content(
-    alloc: Global,
-    page: &mut Page,
-    octets: &[u8],
+    printer: &mut Printer<'_>,
     place: &Place,
     identifier: &[u8],
 ) -> Result<(), AllocError> {
     match identifier {
-        [0x2a, 0x86, 0x48, 0x86, 0xf7, 0x0d, 1, 7, last] => {
-            push_content_of(alloc, page, octets, place, *last)
+        ID_DATA => {
+            let data = printer.contents_at(place).octets;
+            push_length_row(printer, place, FieldName::Content, data)
         }
-        [0x2a, 0x86, 0x48, 0x86, 0xf7, 0x0d, 1, 9, 16, 1, 2] => {
-            push_authenticated_data(alloc, page, octets, place)
+        ID_SIGNED_DATA => push_signed_data(printer, place),
+        ID_ENVELOPED_DATA => push_enveloped_data(printer, place),
+        ID_DIGESTED_DATA => push_digested_data(printer, place),
+        ID_ENCRYPTED_DATA => push_encrypted_data(printer, place),
+        ID_CT_AUTH_DATA => push_authenticated_data(printer, place),
+        _ => {
+            let octets = printer.octets_at(place);
+            push_length_row(printer, place, FieldName::Content, octets)
         }
-        _ => push_length_row(page, place, "content", inner_at(octets, place).octets),
-    }
-}
-
-/// The same by the last arc of 1.2.840.113549.1.7.
-fn push_content_of(
-    alloc: Global,
-    page: &mut Page,
-    octets: &[u8],
-    place: &Place,
-    last: u8,
-) -> Result<(), AllocError> {
-    match last {
-        1 => push_length_row(page, place, "content", contents_at(octets, place).octets),
-        2 => push_signed_data(alloc, page, octets, place),
-        3 => push_enveloped_data(alloc, page, octets, place),
-        5 => push_digested_data(alloc, page, octets, place),
-        6 => push_encrypted_data(alloc, page, octets, place),
-        _ => push_length_row(page, place, "content", inner_at(octets, place).octets),
     }
 }

@@ -9,13 +9,13 @@ use crate::fault::{Fault, refusal};
 use crate::keys::{push_secret, push_version};
 use crate::kind::Kind;
 use crate::whole::push_title;
-use certview_parts::items::Items;
+use certview_parts::field_name::FieldName;
 use certview_parts::page::Page;
 use certview_parts::place::{nowhere, place_of_all};
+use certview_parts::printer::Printer;
 use certview_parts::rows::push_number_row;
 use der_asn1_types::asn1::UintRef;
 use der_asn1_types::{FieldSequence, Fields6, Form, FromDer};
-use der_places::contents_of;
 use std::alloc::{AllocError, Global};
 
 /// The fields of the key, as OpenSSL calls them.
@@ -42,27 +42,27 @@ pub fn push_dsa_private_key(alloc: Global, page: &mut Page, octets: &[u8]) -> Re
 {
     grammar_of_dsa_private_key();
     match DsaPrivateKey::from_der(alloc, octets) {
-        Ok(key) => Ok(push_fields(page, octets, &key)?),
+        Ok(key) => Ok(push_fields(&mut Printer::new(alloc, page, octets), &key)?),
         Err(error) => Err(refusal(Kind::DsaPrivateKey, octets, error)),
     }
 }
 
-fn push_fields(page: &mut Page, octets: &[u8], key: &DsaPrivateKey<'_>) -> Result<(), AllocError> {
-    let whole = place_of_all(octets);
-    push_title(page, &whole, Kind::DsaPrivateKey)?;
-    let mut items = Items::within(octets, &whole);
+fn push_fields(printer: &mut Printer<'_>, key: &DsaPrivateKey<'_>) -> Result<(), AllocError> {
+    let whole = place_of_all(printer.octets);
+    push_title(printer, &whole, Kind::DsaPrivateKey)?;
+    let mut items = printer.items(&whole);
     let version = items.next_item().unwrap_or(nowhere());
     let p = items.next_item().unwrap_or(nowhere());
     let q = items.next_item().unwrap_or(nowhere());
     let g = items.next_item().unwrap_or(nowhere());
     let public = items.next_item().unwrap_or(nowhere());
     let private = items.next_item().unwrap_or(nowhere());
-    push_version(page, &version, *key.fields.first())?;
-    push_number_row(page, &p, "p", key.fields.second().as_bytes())?;
-    push_number_row(page, &q, "q", key.fields.third().as_bytes())?;
-    push_number_row(page, &g, "g", key.fields.fourth().as_bytes())?;
+    push_version(printer, &version, *key.fields.first())?;
+    push_number_row(printer, &p, FieldName::P, key.fields.second().as_bytes())?;
+    push_number_row(printer, &q, FieldName::Q, key.fields.third().as_bytes())?;
+    push_number_row(printer, &g, FieldName::G, key.fields.fourth().as_bytes())?;
     let number = key.fields.fifth().as_bytes();
-    push_number_row(page, &public, "public key", number)?;
-    let count = contents_of(octets, private).length as usize;
-    push_secret(page, &private, "privateKey", count)
+    push_number_row(printer, &public, FieldName::PublicKey, number)?;
+    let count = printer.contents_of(private).length as usize;
+    push_secret(printer, &private, FieldName::PrivateKey, count)
 }

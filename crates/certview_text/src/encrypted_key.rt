@@ -9,13 +9,14 @@ use crate::fault::{Fault, refusal};
 use crate::kind::Kind;
 use crate::whole::push_title;
 use certview_parts::encryption::push_encryption;
+use certview_parts::field_name::FieldName;
 use certview_parts::page::Page;
 use certview_parts::place::{Place, place_of_all};
+use certview_parts::printer::Printer;
 use certview_parts::rows::push_length_row;
 use der_asn1_types::FromDer;
 use der_pkcs::encryption::EncryptedPrivateKeyInfo;
 use der_pkcs::encryption::laws::grammar_of_encrypted_private_key_info;
-use der_places::places_of;
 use std::alloc::{AllocError, Global};
 
 /// Adds the fields of the EncryptedPrivateKeyInfo that these octets are, a line each.
@@ -29,37 +30,33 @@ pub fn push_encrypted_key(alloc: Global, page: &mut Page, octets: &[u8]) -> Resu
 {
     grammar_of_encrypted_private_key_info();
     match EncryptedPrivateKeyInfo::from_der(alloc, octets) {
-        Ok(key) => Ok(push_fields(alloc, page, octets, &key)?),
+        Ok(key) => Ok(push_fields(&mut Printer::new(alloc, page, octets), &key)?),
         Err(error) => Err(refusal(Kind::EncryptedPrivateKey, octets, error)),
     }
 }
 
 fn push_fields(
-    alloc: Global,
-    page: &mut Page,
-    octets: &[u8],
+    printer: &mut Printer<'_>,
     key: &EncryptedPrivateKeyInfo<'_>,
 ) -> Result<(), AllocError> {
-    let whole = place_of_all(octets);
-    push_title(page, &whole, Kind::EncryptedPrivateKey)?;
-    push_encrypted_fields(alloc, page, octets, &whole, key)
+    let whole = place_of_all(printer.octets);
+    push_title(printer, &whole, Kind::EncryptedPrivateKey)?;
+    push_encrypted_fields(printer, &whole, key)
 }
 
 /// Adds the fields of an encrypted key: how it is encrypted, and how many octets there are.
 pub fn push_encrypted_fields(
-    alloc: Global,
-    page: &mut Page,
-    octets: &[u8],
+    printer: &mut Printer<'_>,
     place: &Place,
     key: &EncryptedPrivateKeyInfo<'_>,
 ) -> Result<(), AllocError> {
-    let at = places_of(key, octets, place.offset);
+    let at = printer.places_of(key, place);
     let algorithm = key.encryption_algorithm();
-    push_encryption(alloc, page, octets, &at.encryption_algorithm, algorithm)?;
+    push_encryption(printer, &at.encryption_algorithm, algorithm)?;
     push_length_row(
-        page,
+        printer,
         &at.encrypted_data,
-        "encrypted key",
+        FieldName::EncryptedKey,
         key.encrypted_data().as_bytes(),
     )
 }

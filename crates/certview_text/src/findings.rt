@@ -1,16 +1,21 @@
 //! What a certificate or a list of revoked certificates breaks of RFC 5280 beyond its grammar, as text.
 
-use certview_parts::items::Items;
-use certview_parts::labels::push_label;
-use certview_parts::page::Page;
+use certview_parts::field_name::FieldName;
 use certview_parts::place::{Place, nowhere};
+use certview_parts::printer::Printer;
+use der_extensions::extension::constants::{
+    ID_CE_AUTHORITY_KEY_IDENTIFIER, ID_CE_BASIC_CONSTRAINTS, ID_CE_CRL_NUMBER,
+    ID_CE_DELTA_CRL_INDICATOR, ID_CE_FRESHEST_CRL, ID_CE_INHIBIT_ANY_POLICY,
+    ID_CE_ISSUING_DISTRIBUTION_POINT, ID_CE_NAME_CONSTRAINTS, ID_CE_POLICY_CONSTRAINTS,
+    ID_CE_SUBJECT_DIRECTORY_ATTRIBUTES, ID_CE_SUBJECT_KEY_IDENTIFIER, ID_PE_AUTHORITY_INFO_ACCESS,
+    ID_PE_SUBJECT_INFO_ACCESS,
+};
 use der_pkix::certificate::{Certificate, Extensions};
 use der_pkix::crl::CertificateList;
 use der_places::certificate::{CertificatePlaces, TbsCertificatePlaces};
 use der_places::crl::{CertificateListPlaces, TbsCertListPlaces};
-use der_places::{contents_of, places_of};
 use der_verify::{CertificateRule, ListRule, check_certificate, check_list};
-use std::alloc::{AllocError, Global};
+use std::alloc::AllocError;
 use std::fmt::Write;
 
 /// A field that breaks a rule: its name; the contents octets of its identifier, if it is an extension; and
@@ -24,70 +29,68 @@ struct Finding {
 
 /// Adds a field for each rule that a certificate breaks, where that is asked for.
 pub fn push_certificate_findings(
-    alloc: Global,
-    page: &mut Page,
-    octets: &[u8],
+    printer: &mut Printer<'_>,
     certificate: &Certificate<'_>,
     whole: &Place,
 ) -> Result<(), AllocError> {
-    if !page.asked.has_rules {
+    if !printer.page.asked.has_rules {
         return Ok(());
     }
-    let at = places_of(certificate, octets, whole.offset);
+    let at = printer.places_of(certificate, whole);
     let signed = certificate.tbs_certificate();
-    let within = places_of(signed, octets, at.tbs_certificate.offset);
-    let rules = check_certificate(alloc, certificate)?;
+    let within = printer.places_of(signed, &at.tbs_certificate);
+    let rules = check_certificate(printer.alloc, certificate)?;
     for rule in rules.as_slice() {
         let finding = certificate_finding(*rule);
         let field = place_in_certificate(&at, &within, finding.field);
         let place = place_of(
-            alloc,
-            octets,
+            printer,
             field,
             &within.extensions,
             signed.extensions(),
             &finding,
         );
-        push_finding(page, &place, rule.section(), &finding)?;
+        push_finding(printer, &place, rule.section(), &finding)?;
     }
     Ok(())
 }
 
 /// Adds a field for each rule that a list breaks, where that is asked for.
 pub fn push_list_findings(
-    alloc: Global,
-    page: &mut Page,
-    octets: &[u8],
+    printer: &mut Printer<'_>,
     list: &CertificateList<'_>,
     whole: &Place,
 ) -> Result<(), AllocError> {
-    if !page.asked.has_rules {
+    if !printer.page.asked.has_rules {
         return Ok(());
     }
-    let at = places_of(list, octets, whole.offset);
+    let at = printer.places_of(list, whole);
     let signed = list.tbs_cert_list();
-    let within = places_of(signed, octets, at.tbs_cert_list.offset);
+    let within = printer.places_of(signed, &at.tbs_cert_list);
     let (site, extensions) = (within.crl_extensions, signed.crl_extensions());
-    let rules = check_list(alloc, list)?;
+    let rules = check_list(printer.alloc, list)?;
     for rule in rules.as_slice() {
         let finding = list_finding(*rule);
         let field = place_in_list(&at, &within, finding.field);
-        let place = place_of(alloc, octets, field, &site, extensions, &finding);
-        push_finding(page, &place, rule.section(), &finding)?;
+        let place = place_of(printer, field, &site, extensions, &finding);
+        push_finding(printer, &place, rule.section(), &finding)?;
     }
     Ok(())
 }
 
 fn push_finding(
-    page: &mut Page,
+    printer: &mut Printer<'_>,
     place: &Place,
     section: &str,
     finding: &Finding,
 ) -> Result<(), AllocError> {
-    page.has_findings = true;
-    push_label(page, place, "breaks")?;
+    printer.page.has_findings = true;
+    printer.begin(place, FieldName::Breaks)?;
     let (field, words) = (finding.field, finding.words);
-    writeln!(page.text, "RFC 5280 section {section}, {field} {words}")
+    writeln!(
+        printer.page.text,
+        "RFC 5280 section {section}, {field} {words}"
+    )
 }
 
 /// Where the field of a certificate stands that has this name: the algorithm outside of what is signed, or
@@ -108,7 +111,7 @@ fn place_in_certificate(
     }
 }
 
-/// The same of a list.
+/// Where the field of a list stands that has this name.
 fn place_in_list(at: &CertificateListPlaces, within: &TbsCertListPlaces, field: &str) -> Place {
     match field {
         "signatureAlgorithm" => at.signature_algorithm,
@@ -124,8 +127,7 @@ fn place_in_list(at: &CertificateListPlaces, within: &TbsCertListPlaces, field: 
 /// Where that stands which breaks a rule: an extension in the list of them, which stands after its tag, or
 /// a field.
 fn place_of(
-    alloc: Global,
-    octets: &[u8],
+    printer: &Printer<'_>,
     field: Place,
     list: &Place,
     extensions: Option<&Extensions<'_>>,
@@ -133,21 +135,20 @@ fn place_of(
 ) -> Place {
     match extensions {
         _ if finding.extension.is_empty() => field,
-        Some(some) => place_of_extension(alloc, octets, list, some, finding.extension),
+        Some(some) => place_of_extension(printer, list, some, finding.extension),
         None => *list,
     }
 }
 
 /// Where the first extension with this identifier stands; where there is none, the list.
 fn place_of_extension(
-    alloc: Global,
-    octets: &[u8],
+    printer: &Printer<'_>,
     list: &Place,
     extensions: &Extensions<'_>,
     identifier: &[u8],
 ) -> Place {
-    let mut places = Items::within(octets, &contents_of(octets, *list));
-    for item in extensions.items().iter(alloc) {
+    let mut places = printer.items(&printer.contents_of(*list));
+    for item in extensions.items().iter(printer.alloc) {
         let place = places.next_item().unwrap_or(nowhere());
         match item {
             Ok(extension) if extension.extn_id().as_bytes() == identifier => return place,
@@ -204,7 +205,7 @@ fn certificate_finding(rule: CertificateRule) -> Finding {
         }
         CertificateRule::ExtensionsStandOnce => of_field("extensions", "have one twice"),
         CertificateRule::BasicConstraintsOfCaIsCritical => {
-            is_not_critical("basicConstraints", &[0x55, 0x1d, 19])
+            is_not_critical("basicConstraints", &ID_CE_BASIC_CONSTRAINTS)
         }
         _ => certificate_criticality(rule),
     }
@@ -213,30 +214,33 @@ fn certificate_finding(rule: CertificateRule) -> Finding {
 fn certificate_criticality(rule: CertificateRule) -> Finding {
     match rule {
         CertificateRule::AuthorityKeyIdentifierIsNotCritical => {
-            is_critical("authorityKeyIdentifier", &[0x55, 0x1d, 35])
+            is_critical("authorityKeyIdentifier", &ID_CE_AUTHORITY_KEY_IDENTIFIER)
         }
         CertificateRule::SubjectKeyIdentifierIsNotCritical => {
-            is_critical("subjectKeyIdentifier", &[0x55, 0x1d, 14])
+            is_critical("subjectKeyIdentifier", &ID_CE_SUBJECT_KEY_IDENTIFIER)
         }
         CertificateRule::SubjectDirectoryAttributesIsNotCritical => {
-            is_critical("subjectDirectoryAttributes", &[0x55, 0x1d, 9])
+            is_critical(
+                "subjectDirectoryAttributes",
+                &ID_CE_SUBJECT_DIRECTORY_ATTRIBUTES,
+            )
         }
         CertificateRule::FreshestCrlIsNotCritical => {
-            is_critical("freshestCRL", &[0x55, 0x1d, 46])
+            is_critical("freshestCRL", &ID_CE_FRESHEST_CRL)
         }
         CertificateRule::AuthorityInfoAccessIsNotCritical => {
-            is_critical("authorityInfoAccess", &[0x2b, 6, 1, 5, 5, 7, 1, 1])
+            is_critical("authorityInfoAccess", &ID_PE_AUTHORITY_INFO_ACCESS)
         }
         CertificateRule::SubjectInfoAccessIsNotCritical => {
-            is_critical("subjectInfoAccess", &[0x2b, 6, 1, 5, 5, 7, 1, 11])
+            is_critical("subjectInfoAccess", &ID_PE_SUBJECT_INFO_ACCESS)
         }
         CertificateRule::NameConstraintsIsCritical => {
-            is_not_critical("nameConstraints", &[0x55, 0x1d, 30])
+            is_not_critical("nameConstraints", &ID_CE_NAME_CONSTRAINTS)
         }
         CertificateRule::PolicyConstraintsIsCritical => {
-            is_not_critical("policyConstraints", &[0x55, 0x1d, 36])
+            is_not_critical("policyConstraints", &ID_CE_POLICY_CONSTRAINTS)
         }
-        _ => is_not_critical("inhibitAnyPolicy", &[0x55, 0x1d, 54]),
+        _ => is_not_critical("inhibitAnyPolicy", &ID_CE_INHIBIT_ANY_POLICY),
     }
 }
 
@@ -269,14 +273,17 @@ fn list_finding(rule: ListRule) -> Finding {
 
 fn list_criticality(rule: ListRule) -> Finding {
     match rule {
-        ListRule::CrlNumberIsNotCritical => is_critical("cRLNumber", &[0x55, 0x1d, 20]),
+        ListRule::CrlNumberIsNotCritical => is_critical("cRLNumber", &ID_CE_CRL_NUMBER),
         ListRule::DeltaCrlIndicatorIsCritical => {
-            is_not_critical("deltaCRLIndicator", &[0x55, 0x1d, 27])
+            is_not_critical("deltaCRLIndicator", &ID_CE_DELTA_CRL_INDICATOR)
         }
         ListRule::IssuingDistributionPointIsCritical => {
-            is_not_critical("issuingDistributionPoint", &[0x55, 0x1d, 28])
+            is_not_critical(
+                "issuingDistributionPoint",
+                &ID_CE_ISSUING_DISTRIBUTION_POINT,
+            )
         }
-        ListRule::FreshestCrlIsNotCritical => is_critical("freshestCRL", &[0x55, 0x1d, 46]),
-        _ => is_critical("authorityInfoAccess", &[0x2b, 6, 1, 5, 5, 7, 1, 1]),
+        ListRule::FreshestCrlIsNotCritical => is_critical("freshestCRL", &ID_CE_FRESHEST_CRL),
+        _ => is_critical("authorityInfoAccess", &ID_PE_AUTHORITY_INFO_ACCESS),
     }
 }

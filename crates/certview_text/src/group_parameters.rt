@@ -9,16 +9,16 @@ use crate::fault::{Fault, refusal};
 use crate::kind::Kind;
 use crate::whole::push_title;
 use certview_parts::bit_strings::push_bits;
-use certview_parts::labels::push_label;
+use certview_parts::field_name::FieldName;
 use certview_parts::page::Page;
 use certview_parts::place::{Place, place_of_all};
+use certview_parts::printer::Printer;
 use certview_parts::rows::{push_integer_row, push_number_row};
 use der_asn1_types::FromDer;
 use der_pkcs::algorithm::laws::{
     grammar_of_dh_parameter, grammar_of_domain_parameters, grammar_of_dss_parms,
 };
 use der_pkcs::algorithm::{DhParameter, DomainParameters, DssParms, ValidationParms};
-use der_places::places_of;
 use std::alloc::{AllocError, Global};
 
 /// Adds the fields of the Dss-Parms that these octets are, a line each.
@@ -32,18 +32,18 @@ pub fn push_dsa_parameters(alloc: Global, page: &mut Page, octets: &[u8]) -> Res
 {
     grammar_of_dss_parms();
     match DssParms::from_der(alloc, octets) {
-        Ok(group) => Ok(dsa_fields(page, octets, &group)?),
+        Ok(group) => Ok(dsa_fields(&mut Printer::new(alloc, page, octets), &group)?),
         Err(error) => Err(refusal(Kind::DsaParameters, octets, error)),
     }
 }
 
-fn dsa_fields(page: &mut Page, octets: &[u8], group: &DssParms<'_>) -> Result<(), AllocError> {
-    let whole = place_of_all(octets);
-    push_title(page, &whole, Kind::DsaParameters)?;
-    let at = places_of(group, octets, whole.offset);
-    push_number_row(page, &at.p, "p", group.p().as_bytes())?;
-    push_number_row(page, &at.q, "q", group.q().as_bytes())?;
-    push_number_row(page, &at.g, "g", group.g().as_bytes())
+fn dsa_fields(printer: &mut Printer<'_>, group: &DssParms<'_>) -> Result<(), AllocError> {
+    let whole = place_of_all(printer.octets);
+    push_title(printer, &whole, Kind::DsaParameters)?;
+    let at = printer.places_of(group, &whole);
+    push_number_row(printer, &at.p, FieldName::P, group.p().as_bytes())?;
+    push_number_row(printer, &at.q, FieldName::Q, group.q().as_bytes())?;
+    push_number_row(printer, &at.g, FieldName::G, group.g().as_bytes())
 }
 
 /// Adds the fields of the DHParameter that these octets are, a line each.
@@ -55,21 +55,26 @@ pub fn push_dh_parameters(alloc: Global, page: &mut Page, octets: &[u8]) -> Resu
 {
     grammar_of_dh_parameter();
     match DhParameter::from_der(alloc, octets) {
-        Ok(group) => Ok(dh_fields(page, octets, &group)?),
+        Ok(group) => Ok(dh_fields(&mut Printer::new(alloc, page, octets), &group)?),
         Err(error) => Err(refusal(Kind::DhParameters, octets, error)),
     }
 }
 
-fn dh_fields(page: &mut Page, octets: &[u8], group: &DhParameter<'_>) -> Result<(), AllocError> {
-    let whole = place_of_all(octets);
-    push_title(page, &whole, Kind::DhParameters)?;
-    let at = places_of(group, octets, whole.offset);
-    push_number_row(page, &at.prime, "prime", group.prime().as_bytes())?;
-    push_number_row(page, &at.base, "base", group.base().as_bytes())?;
+fn dh_fields(printer: &mut Printer<'_>, group: &DhParameter<'_>) -> Result<(), AllocError> {
+    let whole = place_of_all(printer.octets);
+    push_title(printer, &whole, Kind::DhParameters)?;
+    let at = printer.places_of(group, &whole);
+    push_number_row(
+        printer,
+        &at.prime,
+        FieldName::Prime,
+        group.prime().as_bytes(),
+    )?;
+    push_number_row(printer, &at.base, FieldName::Base, group.base().as_bytes())?;
     match group.private_value_length() {
         Some(length) => {
             let place = at.private_value_length;
-            push_integer_row(page, &place, "length of a private value", length)
+            push_integer_row(printer, &place, FieldName::LengthOfAPrivateValue, length)
         }
         None => Ok(()),
     }
@@ -84,41 +89,41 @@ pub fn push_x942_parameters(alloc: Global, page: &mut Page, octets: &[u8]) -> Re
 {
     grammar_of_domain_parameters();
     match DomainParameters::from_der(alloc, octets) {
-        Ok(group) => Ok(x942_fields(page, octets, &group)?),
+        Ok(group) => Ok(x942_fields(&mut Printer::new(alloc, page, octets), &group)?),
         Err(error) => Err(refusal(Kind::X942Parameters, octets, error)),
     }
 }
 
-fn x942_fields(
-    page: &mut Page,
-    octets: &[u8],
-    group: &DomainParameters<'_>,
-) -> Result<(), AllocError> {
-    let whole = place_of_all(octets);
-    push_title(page, &whole, Kind::X942Parameters)?;
-    let at = places_of(group, octets, whole.offset);
-    push_number_row(page, &at.p, "p", group.p().as_bytes())?;
-    push_number_row(page, &at.g, "g", group.g().as_bytes())?;
-    push_number_row(page, &at.q, "q", group.q().as_bytes())?;
+fn x942_fields(printer: &mut Printer<'_>, group: &DomainParameters<'_>) -> Result<(), AllocError> {
+    let whole = place_of_all(printer.octets);
+    push_title(printer, &whole, Kind::X942Parameters)?;
+    let at = printer.places_of(group, &whole);
+    push_number_row(printer, &at.p, FieldName::P, group.p().as_bytes())?;
+    push_number_row(printer, &at.g, FieldName::G, group.g().as_bytes())?;
+    push_number_row(printer, &at.q, FieldName::Q, group.q().as_bytes())?;
     if let Some(factor) = group.j() {
-        push_number_row(page, &at.j, "j", factor.as_bytes())?;
+        push_number_row(printer, &at.j, FieldName::J, factor.as_bytes())?;
     }
     match group.validation_parms() {
-        Some(parameters) => push_validation(page, octets, &at.validation_parms, parameters),
+        Some(parameters) => push_validation(printer, &at.validation_parms, parameters),
         None => Ok(()),
     }
 }
 
 fn push_validation(
-    page: &mut Page,
-    octets: &[u8],
+    printer: &mut Printer<'_>,
     place: &Place,
     parameters: &ValidationParms<'_>,
 ) -> Result<(), AllocError> {
-    let at = places_of(parameters, octets, place.offset);
-    push_label(page, &at.seed, "seed")?;
-    push_bits(page, parameters.seed())?;
-    page.text.push('\n')?;
+    let at = printer.places_of(parameters, place);
+    printer.begin(&at.seed, FieldName::Seed)?;
+    push_bits(printer.page, parameters.seed())?;
+    printer.push('\n')?;
     let count = parameters.pgen_counter();
-    push_number_row(page, &at.pgen_counter, "pgenCounter", count.as_bytes())
+    push_number_row(
+        printer,
+        &at.pgen_counter,
+        FieldName::PgenCounter,
+        count.as_bytes(),
+    )
 }

@@ -12,11 +12,12 @@ use crate::whole::push_title;
 use certview_parts::algorithms::{bits_of, push_algorithm, push_key};
 use certview_parts::attribute_rows::push_attribute_rows;
 use certview_parts::bit_strings::push_bits;
+use certview_parts::field_name::FieldName;
 use certview_parts::hexadecimal::{push_digits, push_number_of};
 use certview_parts::identifiers::push_identifier;
-use certview_parts::labels::push_label;
 use certview_parts::page::Page;
 use certview_parts::place::{Place, place_of_all};
+use certview_parts::printer::Printer;
 use der_asn1_types::FromDer;
 use der_asn1_types::asn1::{BitStringRef, UintRef};
 use der_pkix::certificate::SubjectPublicKeyInfo;
@@ -25,7 +26,6 @@ use der_pkix::key::laws::{
     grammar_of_ec_private_key, grammar_of_private_key_info, grammar_of_rsa_public_key,
 };
 use der_pkix::key::{EcParameters, EcPrivateKey, PrivateKeyInfo, RsaPublicKey};
-use der_places::places_of;
 use std::alloc::{AllocError, Global};
 use std::fmt::Write;
 
@@ -40,20 +40,18 @@ pub fn push_public_key(alloc: Global, page: &mut Page, octets: &[u8]) -> Result<
 {
     grammar_of_subject_public_key_info();
     match SubjectPublicKeyInfo::from_der(alloc, octets) {
-        Ok(key) => Ok(public_key_fields(alloc, page, octets, &key)?),
+        Ok(key) => Ok(public_key_fields(&mut Printer::new(alloc, page, octets), &key)?),
         Err(error) => Err(refusal(Kind::PublicKey, octets, error)),
     }
 }
 
 fn public_key_fields(
-    alloc: Global,
-    page: &mut Page,
-    octets: &[u8],
+    printer: &mut Printer<'_>,
     key: &SubjectPublicKeyInfo<'_>,
 ) -> Result<(), AllocError> {
-    let whole = place_of_all(octets);
-    push_title(page, &whole, Kind::PublicKey)?;
-    push_key(alloc, page, octets, &whole, key)?;
+    let whole = place_of_all(printer.octets);
+    push_title(printer, &whole, Kind::PublicKey)?;
+    push_key(printer, &whole, key)?;
     Ok(())
 }
 
@@ -66,46 +64,43 @@ pub fn push_private_key(alloc: Global, page: &mut Page, octets: &[u8]) -> Result
 {
     grammar_of_private_key_info();
     match PrivateKeyInfo::from_der(alloc, octets) {
-        Ok(key) => Ok(private_key_fields(alloc, page, octets, &key)?),
+        Ok(key) => Ok(private_key_fields(&mut Printer::new(alloc, page, octets), &key)?),
         Err(error) => Err(refusal(Kind::PrivateKey, octets, error)),
     }
 }
 
 fn private_key_fields(
-    alloc: Global,
-    page: &mut Page,
-    octets: &[u8],
+    printer: &mut Printer<'_>,
     key: &PrivateKeyInfo<'_>,
 ) -> Result<(), AllocError> {
-    let whole = place_of_all(octets);
-    push_title(page, &whole, Kind::PrivateKey)?;
-    let at = places_of(key, octets, whole.offset);
-    push_version(page, &at.version, key.version())?;
+    let whole = place_of_all(printer.octets);
+    push_title(printer, &whole, Kind::PrivateKey)?;
+    let at = printer.places_of(key, &whole);
+    push_version(printer, &at.version, key.version())?;
     push_algorithm(
-        alloc,
-        page,
+        printer,
         &at.private_key_algorithm,
-        "key algorithm",
+        FieldName::KeyAlgorithm,
         key.private_key_algorithm(),
     )?;
     let count = key.private_key().as_bytes().len();
-    push_secret(page, &at.private_key, "privateKey", count)?;
-    push_attribute_rows(alloc, page, octets, &at.attributes, "attribute")?;
-    push_public_bits(page, &at.public_key, key.public_key())?;
+    push_secret(printer, &at.private_key, FieldName::PrivateKey, count)?;
+    push_attribute_rows(printer, &at.attributes, FieldName::Attribute)?;
+    push_public_bits(printer, &at.public_key, key.public_key())?;
     Ok(())
 }
 
 /// Adds the public key that stands beside a private one, where it is there.
 fn push_public_bits(
-    page: &mut Page,
+    printer: &mut Printer<'_>,
     place: &Place,
     key: Option<&BitStringRef<'_>>,
 ) -> Result<(), AllocError> {
     match key {
         Some(bits) => {
-            push_label(page, place, "public key")?;
-            push_bits(page, bits)?;
-            page.text.push('\n')
+            printer.begin(place, FieldName::PublicKey)?;
+            push_bits(printer.page, bits)?;
+            printer.push('\n')
         }
         None => Ok(()),
     }
@@ -120,21 +115,20 @@ pub fn push_rsa_public_key(alloc: Global, page: &mut Page, octets: &[u8]) -> Res
 {
     grammar_of_rsa_public_key();
     match RsaPublicKey::from_der(alloc, octets) {
-        Ok(key) => Ok(rsa_public_key_fields(page, octets, &key)?),
+        Ok(key) => Ok(rsa_public_key_fields(&mut Printer::new(alloc, page, octets), &key)?),
         Err(error) => Err(refusal(Kind::RsaPublicKey, octets, error)),
     }
 }
 
 fn rsa_public_key_fields(
-    page: &mut Page,
-    octets: &[u8],
+    printer: &mut Printer<'_>,
     key: &RsaPublicKey<'_>,
 ) -> Result<(), AllocError> {
-    let whole = place_of_all(octets);
-    push_title(page, &whole, Kind::RsaPublicKey)?;
-    let at = places_of(key, octets, whole.offset);
-    push_modulus(page, &at.modulus, key.modulus())?;
-    push_exponent(page, &at.public_exponent, key.public_exponent())?;
+    let whole = place_of_all(printer.octets);
+    push_title(printer, &whole, Kind::RsaPublicKey)?;
+    let at = printer.places_of(key, &whole);
+    push_modulus(printer, &at.modulus, key.modulus())?;
+    push_exponent(printer, &at.public_exponent, key.public_exponent())?;
     Ok(())
 }
 
@@ -147,40 +141,37 @@ pub fn push_ec_private_key(alloc: Global, page: &mut Page, octets: &[u8]) -> Res
 {
     grammar_of_ec_private_key();
     match EcPrivateKey::from_der(alloc, octets) {
-        Ok(key) => Ok(ec_private_key_fields(alloc, page, octets, &key)?),
+        Ok(key) => Ok(ec_private_key_fields(&mut Printer::new(alloc, page, octets), &key)?),
         Err(error) => Err(refusal(Kind::EcPrivateKey, octets, error)),
     }
 }
 
 fn ec_private_key_fields(
-    alloc: Global,
-    page: &mut Page,
-    octets: &[u8],
+    printer: &mut Printer<'_>,
     key: &EcPrivateKey<'_>,
 ) -> Result<(), AllocError> {
-    let whole = place_of_all(octets);
-    push_title(page, &whole, Kind::EcPrivateKey)?;
-    let at = places_of(key, octets, whole.offset);
-    push_version(page, &at.version, key.version())?;
+    let whole = place_of_all(printer.octets);
+    push_title(printer, &whole, Kind::EcPrivateKey)?;
+    let at = printer.places_of(key, &whole);
+    push_version(printer, &at.version, key.version())?;
     let count = key.private_key().as_bytes().len();
-    push_secret(page, &at.private_key, "privateKey", count)?;
-    push_curve(alloc, page, &at.parameters, key)?;
-    push_public_bits(page, &at.public_key, key.public_key())?;
+    push_secret(printer, &at.private_key, FieldName::PrivateKey, count)?;
+    push_curve(printer, &at.parameters, key)?;
+    push_public_bits(printer, &at.public_key, key.public_key())?;
     Ok(())
 }
 
 /// Adds a line with the curve, where its parameters are there.
 fn push_curve(
-    alloc: Global,
-    page: &mut Page,
+    printer: &mut Printer<'_>,
     place: &Place,
     key: &EcPrivateKey<'_>,
 ) -> Result<(), AllocError> {
     match key.parameters() {
         Some(parameters) => {
-            push_label(page, place, "curve")?;
-            push_curve_of(alloc, page, parameters)?;
-            page.text.push('\n')
+            printer.begin(place, FieldName::Curve)?;
+            push_curve_of(printer, parameters)?;
+            printer.push('\n')
         }
         None => Ok(()),
     }
@@ -188,54 +179,57 @@ fn push_curve(
 
 /// Adds the name of a curve; of one that has none, how it is known.
 fn push_curve_of(
-    alloc: Global,
-    page: &mut Page,
+    printer: &mut Printer<'_>,
     parameters: &EcParameters<'_>,
 ) -> Result<(), AllocError> {
     match parameters {
-        EcParameters::NamedCurve(name) => push_identifier(alloc, page, name.as_bytes()),
-        EcParameters::ImplicitCurve(_) => page.text.push_str("implicit"),
-        EcParameters::SpecifiedCurve(_) => page.text.push_str("parameters of its own"),
+        EcParameters::NamedCurve(name) => push_identifier(printer, name.as_bytes()),
+        EcParameters::ImplicitCurve(_) => printer.push_str("implicit"),
+        EcParameters::SpecifiedCurve(_) => printer.push_str("parameters of its own"),
     }
 }
 
 /// Adds the version as it is encoded.
-pub fn push_version(page: &mut Page, place: &Place, version: u8) -> Result<(), AllocError> {
-    push_label(page, place, "version")?;
-    writeln!(page.text, "{version}")
+pub fn push_version(
+    printer: &mut Printer<'_>,
+    place: &Place,
+    version: u8,
+) -> Result<(), AllocError> {
+    printer.begin(place, FieldName::Version)?;
+    writeln!(printer.page.text, "{version}")
 }
 
 /// Adds how many octets of a field there are that is secret.
 pub fn push_secret(
-    page: &mut Page,
+    printer: &mut Printer<'_>,
     place: &Place,
-    name: &str,
+    field: FieldName,
     count: usize,
 ) -> Result<(), AllocError> {
-    push_label(page, place, name)?;
-    writeln!(page.text, "{count} octets, not shown")
+    printer.begin(place, field)?;
+    writeln!(printer.page.text, "{count} octets, not shown")
 }
 
 /// Adds how many bits the modulus of a key of RSA has, and its octets.
 pub fn push_modulus(
-    page: &mut Page,
+    printer: &mut Printer<'_>,
     place: &Place,
     modulus: &UintRef<'_>,
 ) -> Result<(), AllocError> {
-    push_label(page, place, "modulus")?;
+    printer.begin(place, FieldName::Modulus)?;
     let bits = bits_of(modulus.as_bytes());
-    write!(page.text, "{bits} bits, ")?;
-    push_digits(page, modulus.as_bytes())?;
-    page.text.push('\n')
+    write!(printer.page.text, "{bits} bits, ")?;
+    push_digits(printer.page, modulus.as_bytes())?;
+    printer.push('\n')
 }
 
 /// Adds the public exponent of a key of RSA.
 pub fn push_exponent(
-    page: &mut Page,
+    printer: &mut Printer<'_>,
     place: &Place,
     exponent: &UintRef<'_>,
 ) -> Result<(), AllocError> {
-    push_label(page, place, "public exponent")?;
-    push_number_of(page, exponent.as_bytes())?;
-    page.text.push('\n')
+    printer.begin(place, FieldName::PublicExponent)?;
+    push_number_of(printer.page, exponent.as_bytes())?;
+    printer.push('\n')
 }

@@ -60,7 +60,7 @@ mod whole;
 
 pub use certview_parts::asked::Asked;
 pub use certview_parts::characters::plain;
-pub use certview_parts::fields::FIELDS;
+pub use certview_parts::field_name::FieldName;
 pub use certview_parts::form::Form;
 pub use fault::Fault;
 pub use kind::{Kind, kind_of};

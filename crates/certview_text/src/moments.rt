@@ -5,9 +5,9 @@ ghost use Rattle.der_verify.specs.Time.{is_valid_at, seconds_of};
 ghost use Rattle.certview_text.specs.declared.moments.Standing.TheVariants.{Within};
 ghost use Rattle.certview_text.specs.Moments.{is_current_at};
 
-use certview_parts::labels::push_label;
-use certview_parts::page::Page;
+use certview_parts::field_name::FieldName;
 use certview_parts::place::Place;
+use certview_parts::printer::Printer;
 use certview_parts::times::push_date_time;
 use der_asn1_types::DateTime;
 use der_pkix::certificate::{Time, Validity};
@@ -27,11 +27,11 @@ enum Standing {
 
 /// Adds a field that says whether a certificate is valid at the moment that is asked for.
 pub fn push_validity_at(
-    page: &mut Page,
+    printer: &mut Printer<'_>,
     place: &Place,
     validity: Validity,
 ) -> Result<(), AllocError> {
-    let Some(moment) = page.asked.moment else {
+    let Some(moment) = printer.page.asked.moment else {
         return Ok(());
     };
     let words = match certificate_standing(validity, seconds_at(&moment)) {
@@ -39,17 +39,17 @@ pub fn push_validity_at(
         Standing::Within => "valid",
         Standing::After => "no longer valid",
     };
-    push_at(page, place, &moment, words, words == "valid")
+    push_at(printer, place, &moment, words, words == "valid")
 }
 
 /// Adds a field that says whether a list is current at the moment that is asked for.
 pub fn push_currency_at(
-    page: &mut Page,
+    printer: &mut Printer<'_>,
     place: &Place,
     first: Time,
     last: Option<Time>,
 ) -> Result<(), AllocError> {
-    let Some(moment) = page.asked.moment else {
+    let Some(moment) = printer.page.asked.moment else {
         return Ok(());
     };
     let words = match list_standing(first, last, seconds_at(&moment)) {
@@ -57,7 +57,7 @@ pub fn push_currency_at(
         Standing::Within => "current",
         Standing::After => "no longer current",
     };
-    push_at(page, place, &moment, words, words == "current")
+    push_at(printer, place, &moment, words, words == "current")
 }
 
 /// The seconds from 1970-01-01T00:00:00Z.
@@ -66,20 +66,20 @@ fn seconds_at(moment: &DateTime) -> u64 {
 }
 
 fn push_at(
-    page: &mut Page,
+    printer: &mut Printer<'_>,
     place: &Place,
     moment: &DateTime,
     words: &str,
     holds: bool,
 ) -> Result<(), AllocError> {
-    push_label(page, place, "at")?;
-    push_date_time(page, moment)?;
-    page.text.push_str(", ")?;
-    page.text.push_str(words)?;
+    printer.begin(place, FieldName::At)?;
+    push_date_time(printer.page, moment)?;
+    printer.push_str(", ")?;
+    printer.push_str(words)?;
     if !holds {
-        page.has_findings = true;
+        printer.page.has_findings = true;
     }
-    page.text.push('\n')
+    printer.push('\n')
 }
 
 /// Where a moment, in seconds from 1970-01-01T00:00:00Z, stands to a validity.

@@ -11,17 +11,16 @@ use crate::kind::Kind;
 use crate::ocsp_certificates::push_certificate_id;
 use crate::whole::push_title;
 use certview_parts::extension_rows::push_explicit_extensions;
-use certview_parts::items::Items;
-use certview_parts::labels::push_label;
+use certview_parts::field_name::FieldName;
 use certview_parts::other_names::push_other_name;
 use certview_parts::page::Page;
 use certview_parts::place::{Place, nowhere, place_of_all};
+use certview_parts::printer::Printer;
 use certview_parts::signatures::{push_certificate_rows, push_signature_rows};
 use der_asn1_types::FromDer;
 use der_extensions::extension::GeneralName;
 use der_ocsp::ocsp::laws::grammar_of_ocsp_request;
 use der_ocsp::ocsp::{OcspRequest, Request, Requests, Signature, TbsRequest};
-use der_places::{contents_of, places_of};
 use std::alloc::{AllocError, Global};
 
 /// Adds the fields of the OCSPRequest that these octets are, a line each.
@@ -35,63 +34,53 @@ pub fn push_ocsp_request(alloc: Global, page: &mut Page, octets: &[u8]) -> Resul
 {
     grammar_of_ocsp_request();
     match OcspRequest::from_der(alloc, octets) {
-        Ok(request) => Ok(push_fields(alloc, page, octets, &request)?),
+        Ok(request) => Ok(push_fields(&mut Printer::new(alloc, page, octets), &request)?),
         Err(error) => Err(refusal(Kind::OcspRequest, octets, error)),
     }
 }
 
-fn push_fields(
-    alloc: Global,
-    page: &mut Page,
-    octets: &[u8],
-    request: &OcspRequest<'_>,
-) -> Result<(), AllocError> {
-    let whole = place_of_all(octets);
-    let at = places_of(request, octets, whole.offset);
-    push_title(page, &whole, Kind::OcspRequest)?;
-    push_signed(alloc, page, octets, &at.tbs_request, request.tbs_request())?;
+fn push_fields(printer: &mut Printer<'_>, request: &OcspRequest<'_>) -> Result<(), AllocError> {
+    let whole = place_of_all(printer.octets);
+    let at = printer.places_of(request, &whole);
+    push_title(printer, &whole, Kind::OcspRequest)?;
+    push_signed(printer, &at.tbs_request, request.tbs_request())?;
     match request.optional_signature() {
         Some(signature) => {
-            let place = contents_of(octets, at.optional_signature);
-            push_signature(alloc, page, octets, &place, signature)
+            let place = printer.contents_of(at.optional_signature);
+            push_signature(printer, &place, signature)
         }
         None => Ok(()),
     }
 }
 
 fn push_signed(
-    alloc: Global,
-    page: &mut Page,
-    octets: &[u8],
+    printer: &mut Printer<'_>,
     place: &Place,
     signed: &TbsRequest<'_>,
 ) -> Result<(), AllocError> {
-    let at = places_of(signed, octets, place.offset);
-    push_version(page, &at.version, signed.version())?;
-    push_requestor(alloc, page, &at.requestor_name, signed.requestor_name())?;
+    let at = printer.places_of(signed, place);
+    push_version(printer, &at.version, signed.version())?;
+    push_requestor(printer, &at.requestor_name, signed.requestor_name())?;
     let requests = signed.request_list();
-    push_requests(alloc, page, octets, &at.request_list, requests)?;
+    push_requests(printer, &at.request_list, requests)?;
     push_explicit_extensions(
-        alloc,
-        page,
-        octets,
+        printer,
         &at.request_extensions,
-        "extension",
+        FieldName::Extension,
         signed.request_extensions(),
     )
 }
 
 fn push_requestor(
-    alloc: Global,
-    page: &mut Page,
+    printer: &mut Printer<'_>,
     place: &Place,
     name: Option<&GeneralName<'_>>,
 ) -> Result<(), AllocError> {
     match name {
         Some(name) => {
-            push_label(page, place, "requestor")?;
-            push_other_name(alloc, page, name)?;
-            page.text.push('\n')
+            printer.begin(place, FieldName::Requestor)?;
+            push_other_name(printer, name)?;
+            printer.push('\n')
         }
         None => Ok(()),
     }
@@ -99,54 +88,45 @@ fn push_requestor(
 
 /// Adds the lines of each certificate that is asked for.
 fn push_requests(
-    alloc: Global,
-    page: &mut Page,
-    octets: &[u8],
+    printer: &mut Printer<'_>,
     list: &Place,
     requests: &Requests<'_>,
 ) -> Result<(), AllocError> {
-    let mut places = Items::within(octets, list);
-    for item in requests.items().iter(alloc) {
+    let mut places = printer.items(list);
+    for item in requests.items().iter(printer.alloc) {
         let place = places.next_item().unwrap_or(nowhere());
         let Ok(request) = item else {
             // It was read before.
             return Err(AllocError);
         };
-        push_one_request(alloc, page, octets, &place, &request)?;
+        push_one_request(printer, &place, &request)?;
     }
     Ok(())
 }
 
 fn push_one_request(
-    alloc: Global,
-    page: &mut Page,
-    octets: &[u8],
+    printer: &mut Printer<'_>,
     place: &Place,
     request: &Request<'_>,
 ) -> Result<(), AllocError> {
-    let at = places_of(request, octets, place.offset);
-    push_certificate_id(alloc, page, octets, &at.req_cert, request.req_cert())?;
+    let at = printer.places_of(request, place);
+    push_certificate_id(printer, &at.req_cert, request.req_cert())?;
     push_explicit_extensions(
-        alloc,
-        page,
-        octets,
+        printer,
         &at.single_request_extensions,
-        "extension of this certificate",
+        FieldName::ExtensionOfThisCertificate,
         request.single_request_extensions(),
     )
 }
 
 fn push_signature(
-    alloc: Global,
-    page: &mut Page,
-    octets: &[u8],
+    printer: &mut Printer<'_>,
     place: &Place,
     signature: &Signature<'_>,
 ) -> Result<(), AllocError> {
-    let at = places_of(signature, octets, place.offset);
+    let at = printer.places_of(signature, place);
     push_signature_rows(
-        alloc,
-        page,
+        printer,
         &at.signature_algorithm,
         signature.signature_algorithm(),
         &at.signature,
@@ -154,8 +134,8 @@ fn push_signature(
     )?;
     match signature.certs() {
         Some(certificates) => {
-            let list = contents_of(octets, at.certs);
-            push_certificate_rows(alloc, page, octets, &list, certificates.items())
+            let list = printer.contents_of(at.certs);
+            push_certificate_rows(printer, &list, certificates.items())
         }
         None => Ok(()),
     }

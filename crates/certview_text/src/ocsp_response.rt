@@ -11,10 +11,11 @@ use crate::kind::Kind;
 use crate::ocsp_statuses::push_single_responses;
 use crate::whole::push_title;
 use certview_parts::extension_rows::push_explicit_extensions;
-use certview_parts::labels::push_label;
+use certview_parts::field_name::FieldName;
 use certview_parts::names::push_name;
 use certview_parts::page::Page;
-use certview_parts::place::{Place, inner_at, place_of_all};
+use certview_parts::place::{Place, place_of_all};
+use certview_parts::printer::Printer;
 use certview_parts::rows::{
     push_identifier_row, push_malformed_inner_row, push_octets_row, push_time_row,
 };
@@ -25,7 +26,6 @@ use der_ocsp::ocsp::laws::grammar_of_ocsp_response;
 use der_ocsp::ocsp::{
     BasicOcspResponse, OcspResponse, OcspResponseStatus, ResponderId, ResponseBytes, ResponseData,
 };
-use der_places::{contents_of, places_of};
 use std::alloc::{AllocError, Global};
 
 /// Adds the fields of the OCSPResponse that these octets are, a line each.
@@ -39,27 +39,22 @@ pub fn push_ocsp_response(alloc: Global, page: &mut Page, octets: &[u8]) -> Resu
 {
     grammar_of_ocsp_response();
     match OcspResponse::from_der(alloc, octets) {
-        Ok(response) => Ok(push_fields(alloc, page, octets, &response)?),
+        Ok(response) => Ok(push_fields(&mut Printer::new(alloc, page, octets), &response)?),
         Err(error) => Err(refusal(Kind::OcspResponse, octets, error)),
     }
 }
 
-fn push_fields(
-    alloc: Global,
-    page: &mut Page,
-    octets: &[u8],
-    response: &OcspResponse<'_>,
-) -> Result<(), AllocError> {
-    let whole = place_of_all(octets);
-    let at = places_of(response, octets, whole.offset);
-    push_title(page, &whole, Kind::OcspResponse)?;
-    push_label(page, &at.response_status, "status")?;
-    page.text.push_str(name_of(response.response_status()))?;
-    page.text.push('\n')?;
+fn push_fields(printer: &mut Printer<'_>, response: &OcspResponse<'_>) -> Result<(), AllocError> {
+    let whole = place_of_all(printer.octets);
+    let at = printer.places_of(response, &whole);
+    push_title(printer, &whole, Kind::OcspResponse)?;
+    printer.begin(&at.response_status, FieldName::Status)?;
+    printer.push_str(name_of(response.response_status()))?;
+    printer.push('\n')?;
     match response.response_bytes() {
         Some(bytes) => {
-            let place = contents_of(octets, at.response_bytes);
-            push_response(alloc, page, octets, &place, bytes)
+            let place = printer.contents_of(at.response_bytes);
+            push_response(printer, &place, bytes)
         }
         None => Ok(()),
     }
@@ -78,40 +73,46 @@ fn name_of(status: OcspResponseStatus) -> &'static str {
 
 /// Adds the type of a response; the fields of a basic one, and of another its octets.
 fn push_response(
-    alloc: Global,
-    page: &mut Page,
-    octets: &[u8],
+    printer: &mut Printer<'_>,
     place: &Place,
     bytes: &ResponseBytes<'_>,
 ) -> Result<(), AllocError> {
-    let at = places_of(bytes, octets, place.offset);
+    let at = printer.places_of(bytes, place);
     let identifier = bytes.response_type().as_bytes();
-    push_identifier_row(alloc, page, &at.response_type, "response type", identifier)?;
+    push_identifier_row(
+        printer,
+        &at.response_type,
+        FieldName::ResponseType,
+        identifier,
+    )?;
     let held = bytes.response().as_bytes();
     if identifier != ID_PKIX_OCSP_BASIC.as_slice() {
-        return push_octets_row(page, &at.response, "response", held);
+        return push_octets_row(printer, &at.response, FieldName::Response, held);
     }
-    let basic = contents_of(octets, at.response);
-    let inner = inner_at(octets, &basic);
-    match BasicOcspResponse::from_der(alloc, inner.octets) {
-        Ok(response) => push_basic(alloc, page, octets, &basic, &response),
-        Err(error) => push_malformed_inner_row(page, &at.response, "response", inner, error),
+    let basic = printer.contents_of(at.response);
+    let inner = printer.inner_at(&basic);
+    match BasicOcspResponse::from_der(printer.alloc, inner.octets) {
+        Ok(response) => push_basic(printer, &basic, &response),
+        Err(error) => push_malformed_inner_row(
+            printer,
+            &at.response,
+            FieldName::Response,
+            inner,
+            error,
+        ),
     }
 }
 
 fn push_basic(
-    alloc: Global,
-    page: &mut Page,
-    octets: &[u8],
+    printer: &mut Printer<'_>,
     place: &Place,
     response: &BasicOcspResponse<'_>,
 ) -> Result<(), AllocError> {
-    let at = places_of(response, octets, place.offset);
+    let at = printer.places_of(response, place);
     let signed = response.tbs_response_data();
-    push_signed(alloc, page, octets, &at.tbs_response_data, signed)?;
+    push_signed(printer, &at.tbs_response_data, signed)?;
     push_signature_rows(
-        alloc,
-        page,
+        printer,
         &at.signature_algorithm,
         response.signature_algorithm(),
         &at.signature,
@@ -119,53 +120,47 @@ fn push_basic(
     )?;
     match response.certs() {
         Some(certificates) => {
-            let list = contents_of(octets, at.certs);
-            push_certificate_rows(alloc, page, octets, &list, certificates.items())
+            let list = printer.contents_of(at.certs);
+            push_certificate_rows(printer, &list, certificates.items())
         }
         None => Ok(()),
     }
 }
 
 fn push_signed(
-    alloc: Global,
-    page: &mut Page,
-    octets: &[u8],
+    printer: &mut Printer<'_>,
     place: &Place,
     signed: &ResponseData<'_>,
 ) -> Result<(), AllocError> {
-    let at = places_of(signed, octets, place.offset);
-    push_version(page, &at.version, signed.version())?;
-    push_responder(alloc, page, octets, &at.responder_id, signed.responder_id())?;
+    let at = printer.places_of(signed, place);
+    push_version(printer, &at.version, signed.version())?;
+    push_responder(printer, &at.responder_id, signed.responder_id())?;
     let time = signed.produced_at().to_date_time();
-    push_time_row(page, &at.produced_at, "produced at", &time)?;
+    push_time_row(printer, &at.produced_at, FieldName::ProducedAt, &time)?;
     let responses = signed.responses();
-    push_single_responses(alloc, page, octets, &at.responses, responses)?;
+    push_single_responses(printer, &at.responses, responses)?;
     push_explicit_extensions(
-        alloc,
-        page,
-        octets,
+        printer,
         &at.response_extensions,
-        "extension",
+        FieldName::Extension,
         signed.response_extensions(),
     )
 }
 
 /// Adds who answers: a name, or the hash of a key.
 fn push_responder(
-    alloc: Global,
-    page: &mut Page,
-    octets: &[u8],
+    printer: &mut Printer<'_>,
     place: &Place,
     responder: &ResponderId<'_>,
 ) -> Result<(), AllocError> {
     match responder {
         ResponderId::ByName(name) => {
-            let named = contents_of(octets, *place);
-            push_name(alloc, page, &named, "responder", &name.fields.first)
+            let named = printer.contents_of(*place);
+            push_name(printer, &named, FieldName::Responder, &name.fields.first)
         }
         ResponderId::ByKey(hash) => {
-            let label = "hash of responder's key";
-            push_octets_row(page, place, label, hash.fields.first.as_bytes())
+            let field = FieldName::HashOfRespondersKey;
+            push_octets_row(printer, place, field, hash.fields.first.as_bytes())
         }
     }
 }

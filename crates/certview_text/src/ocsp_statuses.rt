@@ -3,59 +3,57 @@
 use crate::ocsp_certificates::push_certificate_id;
 use certview_parts::entries::name_of;
 use certview_parts::extension_rows::push_explicit_extensions;
-use certview_parts::items::Items;
-use certview_parts::labels::push_label;
+use certview_parts::field_name::FieldName;
 use certview_parts::page::Page;
 use certview_parts::place::{Place, nowhere};
+use certview_parts::printer::Printer;
 use certview_parts::rows::push_time_row;
 use certview_parts::times::push_date_time;
 use der_ocsp::ocsp::{CertStatus, RevokedInfo, SingleResponse, SingleResponses};
-use der_places::places_of;
-use std::alloc::{AllocError, Global};
+use std::alloc::AllocError;
 
 /// Adds the lines of each SingleResponse.
 pub fn push_single_responses(
-    alloc: Global,
-    page: &mut Page,
-    octets: &[u8],
+    printer: &mut Printer<'_>,
     list: &Place,
     responses: &SingleResponses<'_>,
 ) -> Result<(), AllocError> {
-    let mut places = Items::within(octets, list);
-    for item in responses.items().iter(alloc) {
+    let mut places = printer.items(list);
+    for item in responses.items().iter(printer.alloc) {
         let place = places.next_item().unwrap_or(nowhere());
         let Ok(response) = item else {
             // It was read before.
             return Err(AllocError);
         };
-        push_single_response(alloc, page, octets, &place, &response)?;
+        push_single_response(printer, &place, &response)?;
     }
     Ok(())
 }
 
 fn push_single_response(
-    alloc: Global,
-    page: &mut Page,
-    octets: &[u8],
+    printer: &mut Printer<'_>,
     place: &Place,
     response: &SingleResponse<'_>,
 ) -> Result<(), AllocError> {
-    let at = places_of(response, octets, place.offset);
-    push_certificate_id(alloc, page, octets, &at.cert_id, response.cert_id())?;
-    push_label(page, &at.cert_status, "status")?;
-    push_status(page, &response.cert_status())?;
-    page.text.push('\n')?;
+    let at = printer.places_of(response, place);
+    push_certificate_id(printer, &at.cert_id, response.cert_id())?;
+    printer.begin(&at.cert_status, FieldName::Status)?;
+    push_status(printer.page, &response.cert_status())?;
+    printer.push('\n')?;
     let time = response.this_update().to_date_time();
-    push_time_row(page, &at.this_update, "this update", &time)?;
+    push_time_row(printer, &at.this_update, FieldName::ThisUpdate, &time)?;
     if let Some(time) = response.next_update() {
-        push_time_row(page, &at.next_update, "next update", &time.to_date_time())?;
+        push_time_row(
+            printer,
+            &at.next_update,
+            FieldName::NextUpdate,
+            &time.to_date_time(),
+        )?;
     }
     push_explicit_extensions(
-        alloc,
-        page,
-        octets,
+        printer,
         &at.single_extensions,
-        "extension of this certificate",
+        FieldName::ExtensionOfThisCertificate,
         response.single_extensions(),
     )
 }

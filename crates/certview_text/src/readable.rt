@@ -10,11 +10,12 @@ use certview_parts::algorithms::{push_algorithm, push_key};
 use certview_parts::bit_strings::push_bits;
 use certview_parts::characters::Behind;
 use certview_parts::extensions::push_extension;
+use certview_parts::field_name::FieldName;
 use certview_parts::hexadecimal::push_serial;
 use certview_parts::identifiers::push_attribute_type;
-use certview_parts::labels::push_label;
 use certview_parts::names::push_attribute;
 use certview_parts::page::{Inner, Page, push_malformed, push_malformed_inner};
+use certview_parts::printer::Printer;
 use certview_parts::times::push_time;
 use der_asn1_types::FromDer;
 use der_asn1_types::asn1::{BitStringRef, IntRef};
@@ -36,9 +37,10 @@ pub fn push_parts(
     octets: &[u8],
 ) -> Result<(), AllocError> {
     let whole = whole_of(octets, kind);
+    let mut printer = Printer::new(alloc, page, octets);
     match kind {
-        Kind::Certificate => push_certificate_parts(alloc, page, octets, &whole),
-        Kind::RevocationList => push_list_parts(alloc, page, octets, &whole),
+        Kind::Certificate => push_certificate_parts(&mut printer, &whole),
+        Kind::RevocationList => push_list_parts(&mut printer, &whole),
         _ => Ok(()),
     }
 }
@@ -61,214 +63,165 @@ fn octets_within<'a>(octets: &'a [u8], extent: &Extent) -> &'a [u8] {
     octets.get(extent.contents..).unwrap_or(&[])
 }
 
-/// The same with the times in it, where it looks like a certificate.
-fn push_certificate_parts(
-    alloc: Global,
-    page: &mut Page,
-    octets: &[u8],
-    whole: &Site,
-) -> Result<(), AllocError> {
+/// Adds the fields of a certificate, where the octets have a time in the place of its validity.
+fn push_certificate_parts(printer: &mut Printer<'_>, whole: &Site) -> Result<(), AllocError> {
+    let octets = printer.octets;
     let site = whole.field(octets, "tbsCertificate");
     let validity = site.field(octets, "validity");
     if !has_time_tag(octets_within(octets, &validity.extent)) {
         return Ok(());
     }
-    push_title(page, &whole.place(), Kind::Certificate)?;
-    push_number_part(page, octets, &site)?;
-    push_serial_part(alloc, page, octets, &site.field(octets, "serialNumber"))?;
-    push_algorithm_part(alloc, page, octets, &site.field(octets, "signature"))?;
-    push_name_part(alloc, page, octets, &site.field(octets, "issuer"), "issuer")?;
+    push_title(printer, &whole.place(), Kind::Certificate)?;
+    push_number_part(printer, &site)?;
+    push_serial_part(printer, &site.field(octets, "serialNumber"))?;
+    push_algorithm_part(printer, &site.field(octets, "signature"))?;
+    push_name_part(printer, &site.field(octets, "issuer"), FieldName::Issuer)?;
     push_time_part(
-        alloc,
-        page,
-        octets,
+        printer,
         &validity.field(octets, "notBefore"),
-        "not before",
+        FieldName::NotBefore,
     )?;
     push_time_part(
-        alloc,
-        page,
-        octets,
+        printer,
         &validity.field(octets, "notAfter"),
-        "not after",
+        FieldName::NotAfter,
     )?;
-    push_name_part(
-        alloc,
-        page,
-        octets,
-        &site.field(octets, "subject"),
-        "subject",
-    )?;
-    push_key_part(
-        alloc,
-        page,
-        octets,
-        &site.field(octets, "subjectPublicKeyInfo"),
-    )?;
+    push_name_part(printer, &site.field(octets, "subject"), FieldName::Subject)?;
+    push_key_part(printer, &site.field(octets, "subjectPublicKeyInfo"))?;
     push_unique_part(
-        page,
-        octets,
+        printer,
         &site.field(octets, "issuerUniqueID"),
-        "issuer's number",
+        FieldName::IssuersNumber,
     )?;
     push_unique_part(
-        page,
-        octets,
+        printer,
         &site.field(octets, "subjectUniqueID"),
-        "subject's number",
+        FieldName::SubjectsNumber,
     )?;
-    push_extension_parts(alloc, page, octets, &site.field(octets, "extensions"))?;
-    push_signature_parts(alloc, page, octets, whole)
+    push_extension_parts(printer, &site.field(octets, "extensions"))?;
+    push_signature_parts(printer, whole)
 }
 
-/// The same of a list.
-fn push_list_parts(
-    alloc: Global,
-    page: &mut Page,
-    octets: &[u8],
-    whole: &Site,
-) -> Result<(), AllocError> {
+/// Adds the fields of a list of revoked certificates, where the octets have a time in the place of its own.
+fn push_list_parts(printer: &mut Printer<'_>, whole: &Site) -> Result<(), AllocError> {
+    let octets = printer.octets;
     let site = whole.field(octets, "tbsCertList");
     let first = site.field(octets, "thisUpdate");
     if !has_time_tag(octets_of(octets, &first.extent)) {
         return Ok(());
     }
-    push_title(page, &whole.place(), Kind::RevocationList)?;
-    push_number_part(page, octets, &site)?;
-    push_algorithm_part(alloc, page, octets, &site.field(octets, "signature"))?;
-    push_name_part(alloc, page, octets, &site.field(octets, "issuer"), "issuer")?;
-    push_time_part(alloc, page, octets, &first, "this update")?;
+    push_title(printer, &whole.place(), Kind::RevocationList)?;
+    push_number_part(printer, &site)?;
+    push_algorithm_part(printer, &site.field(octets, "signature"))?;
+    push_name_part(printer, &site.field(octets, "issuer"), FieldName::Issuer)?;
+    push_time_part(printer, &first, FieldName::ThisUpdate)?;
     push_time_part(
-        alloc,
-        page,
-        octets,
+        printer,
         &site.field(octets, "nextUpdate"),
-        "next update",
+        FieldName::NextUpdate,
     )?;
-    push_entry_parts(
-        alloc,
-        page,
-        octets,
-        &site.field(octets, "revokedCertificates"),
-    )?;
-    push_extension_parts(alloc, page, octets, &site.field(octets, "crlExtensions"))?;
-    push_signature_parts(alloc, page, octets, whole)
+    push_entry_parts(printer, &site.field(octets, "revokedCertificates"))?;
+    push_extension_parts(printer, &site.field(octets, "crlExtensions"))?;
+    push_signature_parts(printer, whole)
 }
 
 /// Adds the version, whose last octet is its number.
-fn push_number_part(page: &mut Page, octets: &[u8], site: &Site) -> Result<(), AllocError> {
-    let version = site.field(octets, "version");
-    match octets_of(octets, &version.extent) {
-        [.., number] => push_version(page, &version.place(), *number),
-        [] => push_version(page, &version.place(), 0),
+fn push_number_part(printer: &mut Printer<'_>, site: &Site) -> Result<(), AllocError> {
+    let version = site.field(printer.octets, "version");
+    match octets_of(printer.octets, &version.extent) {
+        [.., number] => push_version(printer, &version.place(), *number),
+        [] => push_version(printer, &version.place(), 0),
     }
 }
 
-fn push_serial_part(
-    alloc: Global,
-    page: &mut Page,
-    octets: &[u8],
-    site: &Site,
-) -> Result<(), AllocError> {
-    push_label(page, &site.place(), "serial number")?;
-    match IntRef::from_der(alloc, octets_of(octets, &site.extent)) {
-        Ok(number) => push_serial(page, number.as_bytes())?,
-        Err(error) => push_malformed(page, site.extent.begin, error)?,
+fn push_serial_part(printer: &mut Printer<'_>, site: &Site) -> Result<(), AllocError> {
+    printer.begin(&site.place(), FieldName::SerialNumber)?;
+    match IntRef::from_der(printer.alloc, octets_of(printer.octets, &site.extent)) {
+        Ok(number) => push_serial(printer.page, number.as_bytes())?,
+        Err(error) => push_malformed(printer.page, site.extent.begin, error)?,
     }
-    page.text.push('\n')
+    printer.push('\n')
 }
 
-fn push_algorithm_part(
-    alloc: Global,
-    page: &mut Page,
-    octets: &[u8],
-    site: &Site,
-) -> Result<(), AllocError> {
-    match AlgorithmIdentifier::from_der(alloc, octets_of(octets, &site.extent)) {
+fn push_algorithm_part(printer: &mut Printer<'_>, site: &Site) -> Result<(), AllocError> {
+    match AlgorithmIdentifier::from_der(printer.alloc, octets_of(printer.octets, &site.extent)) {
         Ok(algorithm) => push_algorithm(
-            alloc,
-            page,
+            printer,
             &site.place(),
-            "signature algorithm",
+            FieldName::SignatureAlgorithm,
             &algorithm,
         ),
         Err(error) => {
-            push_label(page, &site.place(), "signature algorithm")?;
-            push_malformed(page, site.extent.begin, error)?;
-            page.text.push('\n')
+            printer.begin(&site.place(), FieldName::SignatureAlgorithm)?;
+            push_malformed(printer.page, site.extent.begin, error)?;
+            printer.push('\n')
         }
     }
 }
 
 fn push_time_part(
-    alloc: Global,
-    page: &mut Page,
-    octets: &[u8],
+    printer: &mut Printer<'_>,
     site: &Site,
-    label: &str,
+    field: FieldName,
 ) -> Result<(), AllocError> {
     if site.extent.len() == 0 {
         return Ok(());
     }
-    push_label(page, &site.place(), label)?;
-    let inner = inner_of(octets, &site.extent);
-    match Time::from_der(alloc, inner.octets) {
-        Ok(time) => push_time(page, &time)?,
-        Err(error) => push_malformed_inner(page, inner, error)?,
+    printer.begin(&site.place(), field)?;
+    let inner = inner_of(printer.octets, &site.extent);
+    match Time::from_der(printer.alloc, inner.octets) {
+        Ok(time) => push_time(printer.page, &time)?,
+        Err(error) => push_malformed_inner(printer.page, inner, error)?,
     }
-    page.text.push('\n')
+    printer.push('\n')
 }
 
 /// Adds a name: attribute by attribute, where it is none.
 fn push_name_part(
-    alloc: Global,
-    page: &mut Page,
-    octets: &[u8],
+    printer: &mut Printer<'_>,
     site: &Site,
-    label: &str,
+    field: FieldName,
 ) -> Result<(), AllocError> {
-    push_label(page, &site.place(), label)?;
-    let begin = page.text.len();
-    let mut sites = Sites::within(octets, site);
+    printer.begin(&site.place(), field)?;
+    let begin = printer.page.text.len();
+    let mut sites = Sites::within(printer.octets, site);
     for _ in site.extent.contents..site.extent.end {
         let Some(part) = sites.next_site() else {
             break;
         };
-        if page.text.len() > begin {
-            page.text.push_str(", ")?;
+        if printer.page.text.len() > begin {
+            printer.push_str(", ")?;
         }
-        push_attribute_parts(alloc, page, octets, &part)?;
+        push_attribute_parts(printer, &part)?;
     }
-    if let Err(error) = Name::from_der(alloc, octets_of(octets, &site.extent)) {
-        if page.text.len() == begin {
-            push_malformed(page, site.extent.begin, error)?;
+    if let Err(error) = Name::from_der(printer.alloc, octets_of(printer.octets, &site.extent)) {
+        if printer.page.text.len() == begin {
+            push_malformed(printer.page, site.extent.begin, error)?;
         }
     }
-    page.text.push('\n')
+    printer.push('\n')
 }
 
 /// Adds the attributes of a place of a name.
-fn push_attribute_parts(
-    alloc: Global,
-    page: &mut Page,
-    octets: &[u8],
-    site: &Site,
-) -> Result<(), AllocError> {
+fn push_attribute_parts(printer: &mut Printer<'_>, site: &Site) -> Result<(), AllocError> {
     let mut is_first = true;
-    let mut sites = Sites::within(octets, site);
+    let mut sites = Sites::within(printer.octets, site);
     for _ in site.extent.contents..site.extent.end {
         let Some(part) = sites.next_site() else {
             break;
         };
         if !is_first {
-            page.text.push('+')?;
+            printer.push('+')?;
         }
         is_first = false;
-        match AttributeTypeAndValue::from_der(alloc, octets_of(octets, &part.extent)) {
-            Ok(attribute) => push_attribute(alloc, page, &attribute, Behind::Mark)?,
+        match AttributeTypeAndValue::from_der(
+            printer.alloc,
+            octets_of(printer.octets, &part.extent),
+        ) {
+            Ok(attribute) => push_attribute(printer, &attribute, Behind::Mark)?,
             Err(error) => {
-                push_type_part(alloc, page, octets, &part)?;
-                push_malformed(page, part.extent.begin, error)?;
+                push_type_part(printer, &part)?;
+                push_malformed(printer.page, part.extent.begin, error)?;
             }
         }
     }
@@ -276,140 +229,107 @@ fn push_attribute_parts(
 }
 
 /// Adds the type of an attribute, if an identifier stands there.
-fn push_type_part(
-    alloc: Global,
-    page: &mut Page,
-    octets: &[u8],
-    site: &Site,
-) -> Result<(), AllocError> {
-    let extent = site.field(octets, "type").extent;
-    if !has_tag(octets_of(octets, &extent), 0x06) {
+fn push_type_part(printer: &mut Printer<'_>, site: &Site) -> Result<(), AllocError> {
+    let extent = site.field(printer.octets, "type").extent;
+    if !has_tag(octets_of(printer.octets, &extent), 0x06) {
         return Ok(());
     }
-    let identifier = octets.get(extent.contents..extent.end).unwrap_or(&[]);
-    push_attribute_type(alloc, page, identifier)?;
-    page.text.push('=')
+    let identifier = printer
+        .octets
+        .get(extent.contents..extent.end)
+        .unwrap_or(&[]);
+    push_attribute_type(printer, identifier)?;
+    printer.push('=')
 }
 
-fn push_key_part(
-    alloc: Global,
-    page: &mut Page,
-    octets: &[u8],
-    site: &Site,
-) -> Result<(), AllocError> {
-    match SubjectPublicKeyInfo::from_der(alloc, octets_of(octets, &site.extent)) {
-        Ok(key) => push_key(alloc, page, octets, &site.place(), &key),
+fn push_key_part(printer: &mut Printer<'_>, site: &Site) -> Result<(), AllocError> {
+    match SubjectPublicKeyInfo::from_der(printer.alloc, octets_of(printer.octets, &site.extent)) {
+        Ok(key) => push_key(printer, &site.place(), &key),
         Err(error) => {
-            push_label(page, &site.place(), "key")?;
-            push_malformed(page, site.extent.begin, error)?;
-            page.text.push('\n')
+            printer.begin(&site.place(), FieldName::Key)?;
+            push_malformed(printer.page, site.extent.begin, error)?;
+            printer.push('\n')
         }
     }
 }
 
 /// Adds a number of an issuer or of a subject, where it is there: the octet of unused bits, and others.
 fn push_unique_part(
-    page: &mut Page,
-    octets: &[u8],
+    printer: &mut Printer<'_>,
     site: &Site,
-    label: &str,
+    field: FieldName,
 ) -> Result<(), AllocError> {
-    let Some([unused, bits @ ..]) = octets.get(site.extent.contents..site.extent.end) else {
+    let Some([unused, bits @ ..]) = printer.octets.get(site.extent.contents..site.extent.end) else {
         return Ok(());
     };
-    push_label(page, &site.place(), label)?;
+    printer.begin(&site.place(), field)?;
     match BitStringRef::new(*unused, bits) {
-        Ok(bits) => push_bits(page, &bits)?,
-        Err(error) => push_malformed(page, site.extent.contents, error)?,
+        Ok(bits) => push_bits(printer.page, &bits)?,
+        Err(error) => push_malformed(printer.page, site.extent.contents, error)?,
     }
-    page.text.push('\n')
+    printer.push('\n')
 }
 
 /// Adds each extension.
-fn push_extension_parts(
-    alloc: Global,
-    page: &mut Page,
-    octets: &[u8],
-    site: &Site,
-) -> Result<(), AllocError> {
-    let list = site.field(octets, "");
-    let mut sites = Sites::within(octets, &list);
+fn push_extension_parts(printer: &mut Printer<'_>, site: &Site) -> Result<(), AllocError> {
+    let list = site.field(printer.octets, "");
+    let mut sites = Sites::within(printer.octets, &list);
     for _ in list.extent.contents..list.extent.end {
         let Some(part) = sites.next_site() else {
             break;
         };
-        push_extension_part(alloc, page, octets, &part)?;
+        push_extension_part(printer, &part)?;
     }
     Ok(())
 }
 
-fn push_extension_part(
-    alloc: Global,
-    page: &mut Page,
-    octets: &[u8],
-    site: &Site,
-) -> Result<(), AllocError> {
-    push_label(page, &site.place(), "extension")?;
-    match Extension::from_der(alloc, octets_of(octets, &site.extent)) {
-        Ok(extension) => push_extension(alloc, page, &site.place(), &extension)?,
-        Err(error) => push_malformed(page, site.extent.begin, error)?,
+fn push_extension_part(printer: &mut Printer<'_>, site: &Site) -> Result<(), AllocError> {
+    printer.begin(&site.place(), FieldName::Extension)?;
+    match Extension::from_der(printer.alloc, octets_of(printer.octets, &site.extent)) {
+        Ok(extension) => push_extension(printer, &site.place(), &extension)?,
+        Err(error) => push_malformed(printer.page, site.extent.begin, error)?,
     }
-    page.text.push('\n')
+    printer.push('\n')
 }
 
 /// Adds each revoked certificate.
-fn push_entry_parts(
-    alloc: Global,
-    page: &mut Page,
-    octets: &[u8],
-    list: &Site,
-) -> Result<(), AllocError> {
-    let mut sites = Sites::within(octets, list);
+fn push_entry_parts(printer: &mut Printer<'_>, list: &Site) -> Result<(), AllocError> {
+    let mut sites = Sites::within(printer.octets, list);
     for _ in list.extent.contents..list.extent.end {
         let Some(part) = sites.next_site() else {
             break;
         };
-        push_entry_part(alloc, page, octets, &part)?;
+        push_entry_part(printer, &part)?;
     }
     Ok(())
 }
 
-fn push_entry_part(
-    alloc: Global,
-    page: &mut Page,
-    octets: &[u8],
-    site: &Site,
-) -> Result<(), AllocError> {
-    push_label(page, &site.place(), "revoked")?;
-    let inner = inner_of(octets, &site.extent);
-    match RevokedCertificate::from_der(alloc, inner.octets) {
-        Ok(entry) => push_entry(alloc, page, octets, &site.place(), &entry),
+fn push_entry_part(printer: &mut Printer<'_>, site: &Site) -> Result<(), AllocError> {
+    printer.begin(&site.place(), FieldName::Revoked)?;
+    let inner = inner_of(printer.octets, &site.extent);
+    match RevokedCertificate::from_der(printer.alloc, inner.octets) {
+        Ok(entry) => push_entry(printer, &site.place(), &entry),
         Err(error) => {
-            push_malformed_inner(page, inner, error)?;
-            page.text.push('\n')
+            push_malformed_inner(printer.page, inner, error)?;
+            printer.push('\n')
         }
     }
 }
 
 /// Adds the algorithm outside of what is signed, and the signature.
-fn push_signature_parts(
-    alloc: Global,
-    page: &mut Page,
-    octets: &[u8],
-    whole: &Site,
-) -> Result<(), AllocError> {
-    let algorithm = whole.field(octets, "signatureAlgorithm");
+fn push_signature_parts(printer: &mut Printer<'_>, whole: &Site) -> Result<(), AllocError> {
+    let algorithm = whole.field(printer.octets, "signatureAlgorithm");
     if algorithm.extent.len() > 0 {
-        push_algorithm_part(alloc, page, octets, &algorithm)?;
+        push_algorithm_part(printer, &algorithm)?;
     }
-    let site = whole.field(octets, "signatureValue");
+    let site = whole.field(printer.octets, "signatureValue");
     if site.extent.len() == 0 {
         return Ok(());
     }
-    push_label(page, &site.place(), "signature")?;
-    match BitStringRef::from_der(alloc, octets_of(octets, &site.extent)) {
-        Ok(bits) => push_bits(page, &bits)?,
-        Err(error) => push_malformed(page, site.extent.begin, error)?,
+    printer.begin(&site.place(), FieldName::Signature)?;
+    match BitStringRef::from_der(printer.alloc, octets_of(printer.octets, &site.extent)) {
+        Ok(bits) => push_bits(printer.page, &bits)?,
+        Err(error) => push_malformed(printer.page, site.extent.begin, error)?,
     }
-    page.text.push('\n')
+    printer.push('\n')
 }

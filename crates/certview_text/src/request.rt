@@ -11,14 +11,15 @@ use crate::kind::Kind;
 use crate::whole::push_title;
 use certview_parts::algorithms::push_key;
 use certview_parts::attribute_rows::push_attribute_rows;
+use certview_parts::field_name::FieldName;
 use certview_parts::names::push_name;
 use certview_parts::page::Page;
 use certview_parts::place::{Place, place_of_all};
+use certview_parts::printer::Printer;
 use certview_parts::signatures::push_signature_rows;
 use der_asn1_types::FromDer;
 use der_pkcs::request::laws::grammar_of_certification_request;
 use der_pkcs::request::{CertificationRequest, CertificationRequestInfo};
-use der_places::places_of;
 use std::alloc::{AllocError, Global};
 
 /// Adds the fields of the CertificationRequest that these octets are, a line each.
@@ -32,30 +33,25 @@ pub fn push_request(alloc: Global, page: &mut Page, octets: &[u8]) -> Result<(),
 {
     grammar_of_certification_request();
     match CertificationRequest::from_der(alloc, octets) {
-        Ok(request) => Ok(push_fields(alloc, page, octets, &request)?),
+        Ok(request) => Ok(push_fields(&mut Printer::new(alloc, page, octets), &request)?),
         Err(error) => Err(refusal(Kind::CertificationRequest, octets, error)),
     }
 }
 
 fn push_fields(
-    alloc: Global,
-    page: &mut Page,
-    octets: &[u8],
+    printer: &mut Printer<'_>,
     request: &CertificationRequest<'_>,
 ) -> Result<(), AllocError> {
-    let whole = place_of_all(octets);
-    push_title(page, &whole, Kind::CertificationRequest)?;
-    let at = places_of(request, octets, whole.offset);
+    let whole = place_of_all(printer.octets);
+    push_title(printer, &whole, Kind::CertificationRequest)?;
+    let at = printer.places_of(request, &whole);
     push_signed(
-        alloc,
-        page,
-        octets,
+        printer,
         &at.certification_request_info,
         request.certification_request_info(),
     )?;
     push_signature_rows(
-        alloc,
-        page,
+        printer,
         &at.signature_algorithm,
         request.signature_algorithm(),
         &at.signature,
@@ -66,16 +62,14 @@ fn push_fields(
 /// Adds what is signed: the version, of which what is encoded is one less, the subject, the key and the
 /// attributes.
 fn push_signed(
-    alloc: Global,
-    page: &mut Page,
-    octets: &[u8],
+    printer: &mut Printer<'_>,
     place: &Place,
     signed: &CertificationRequestInfo<'_>,
 ) -> Result<(), AllocError> {
-    let at = places_of(signed, octets, place.offset);
-    push_version(page, &at.version, signed.version())?;
-    push_name(alloc, page, &at.subject, "subject", signed.subject())?;
+    let at = printer.places_of(signed, place);
+    push_version(printer, &at.version, signed.version())?;
+    push_name(printer, &at.subject, FieldName::Subject, signed.subject())?;
     let key = signed.subject_pk_info();
-    push_key(alloc, page, octets, &at.subject_pk_info, key)?;
-    push_attribute_rows(alloc, page, octets, &at.attributes, "attribute")
+    push_key(printer, &at.subject_pk_info, key)?;
+    push_attribute_rows(printer, &at.attributes, FieldName::Attribute)
 }

@@ -14,12 +14,12 @@ use crate::whole::push_title;
 use certview_parts::algorithms::push_algorithm;
 use certview_parts::extension_rows::push_explicit_extensions;
 use certview_parts::extensions::push_extension;
+use certview_parts::field_name::FieldName;
 use certview_parts::hexadecimal::push_serial;
-use certview_parts::items::Items;
-use certview_parts::labels::push_label;
 use certview_parts::names::push_name;
 use certview_parts::page::Page;
 use certview_parts::place::{Place, nowhere, place_of_all};
+use certview_parts::printer::Printer;
 use certview_parts::signatures::push_signature_rows;
 use certview_parts::times::{push_moment, push_time};
 use der_asn1_types::FromDer;
@@ -28,7 +28,6 @@ use der_pkix::certificate::{Extension, Extensions};
 use der_pkix::crl::laws::grammar_of_certificate_list;
 use der_pkix::crl::{CertificateList, RevokedCertificate, TbsCertList};
 use der_places::crl::TbsCertListPlaces;
-use der_places::places_of;
 use std::alloc::{AllocError, Global};
 
 /// Adds the fields of the list of revoked certificates that these octets are, a line each.
@@ -40,146 +39,127 @@ pub fn push_list(alloc: Global, page: &mut Page, octets: &[u8]) -> Result<(), Fa
 {
     grammar_of_certificate_list();
     match CertificateList::from_der(alloc, octets) {
-        Ok(list) => Ok(push_fields(alloc, page, octets, &list)?),
+        Ok(list) => Ok(push_fields(&mut Printer::new(alloc, page, octets), &list)?),
         Err(error) => Err(refusal(Kind::RevocationList, octets, error)),
     }
 }
 
-fn push_fields(
-    alloc: Global,
-    page: &mut Page,
-    octets: &[u8],
-    list: &CertificateList<'_>,
-) -> Result<(), AllocError> {
-    let whole = place_of_all(octets);
-    push_title(page, &whole, Kind::RevocationList)?;
-    let at = places_of(list, octets, whole.offset);
+fn push_fields(printer: &mut Printer<'_>, list: &CertificateList<'_>) -> Result<(), AllocError> {
+    let whole = place_of_all(printer.octets);
+    push_title(printer, &whole, Kind::RevocationList)?;
+    let at = printer.places_of(list, &whole);
     let signed = list.tbs_cert_list();
-    let within = places_of(signed, octets, at.tbs_cert_list.offset);
-    push_signed(alloc, page, &within, signed)?;
-    push_revoked(alloc, page, octets, &within, signed)?;
+    let within = printer.places_of(signed, &at.tbs_cert_list);
+    push_signed(printer, &within, signed)?;
+    push_revoked(printer, &within, signed)?;
     push_signature_rows(
-        alloc,
-        page,
+        printer,
         &at.signature_algorithm,
         list.signature_algorithm(),
         &at.signature_value,
         list.signature_value(),
     )?;
-    push_list_findings(alloc, page, octets, list, &whole)?;
+    push_list_findings(printer, list, &whole)?;
     let (now, next) = (signed.this_update(), signed.next_update());
-    push_currency_at(page, &within.this_update, now, next)
+    push_currency_at(printer, &within.this_update, now, next)
 }
 
 fn push_signed(
-    alloc: Global,
-    page: &mut Page,
+    printer: &mut Printer<'_>,
     at: &TbsCertListPlaces,
     signed: &TbsCertList<'_>,
 ) -> Result<(), AllocError> {
-    push_version(page, &at.version, signed.version().unwrap_or(0))?;
+    push_version(printer, &at.version, signed.version().unwrap_or(0))?;
     push_algorithm(
-        alloc,
-        page,
+        printer,
         &at.signature,
-        "signature algorithm",
+        FieldName::SignatureAlgorithm,
         signed.signature(),
     )?;
-    push_name(alloc, page, &at.issuer, "issuer", signed.issuer())?;
+    push_name(printer, &at.issuer, FieldName::Issuer, signed.issuer())?;
     let now = signed.this_update();
-    push_moment(page, &at.this_update, "this update", &now)?;
+    push_moment(printer, &at.this_update, FieldName::ThisUpdate, &now)?;
     match signed.next_update() {
-        Some(time) => push_moment(page, &at.next_update, "next update", &time),
+        Some(time) => push_moment(printer, &at.next_update, FieldName::NextUpdate, &time),
         None => Ok(()),
     }
 }
 
 /// Adds the entries, and the extensions of the list.
 fn push_revoked(
-    alloc: Global,
-    page: &mut Page,
-    octets: &[u8],
+    printer: &mut Printer<'_>,
     at: &TbsCertListPlaces,
     signed: &TbsCertList<'_>,
 ) -> Result<(), AllocError> {
     if let Some(entries) = signed.revoked_certificates() {
         let list = at.revoked_certificates;
-        push_entries(alloc, page, octets, &list, entries)?;
+        push_entries(printer, &list, entries)?;
     }
     push_explicit_extensions(
-        alloc,
-        page,
-        octets,
+        printer,
         &at.crl_extensions,
-        "extension",
+        FieldName::Extension,
         signed.crl_extensions(),
     )
 }
 
 fn push_entries<'a>(
-    alloc: Global,
-    page: &mut Page,
-    octets: &[u8],
+    printer: &mut Printer<'_>,
     list: &Place,
     entries: &ListRef<'a, RevokedCertificate<'a>>,
 ) -> Result<(), AllocError> {
-    let mut places = Items::within(octets, list);
-    for item in entries.iter(alloc) {
+    let mut places = printer.items(list);
+    for item in entries.iter(printer.alloc) {
         let place = places.next_item().unwrap_or(nowhere());
-        push_label(page, &place, "revoked")?;
+        printer.begin(&place, FieldName::Revoked)?;
         let Ok(entry) = item else {
             // It was read before.
             return Err(AllocError);
         };
-        push_entry(alloc, page, octets, &place, &entry)?;
+        push_entry(printer, &place, &entry)?;
     }
     Ok(())
 }
 
 /// Adds the serial number, since when it is revoked, and its extensions; and ends the line.
 pub fn push_entry(
-    alloc: Global,
-    page: &mut Page,
-    octets: &[u8],
+    printer: &mut Printer<'_>,
     place: &Place,
     entry: &RevokedCertificate<'_>,
 ) -> Result<(), AllocError> {
-    push_serial(page, entry.user_certificate().as_bytes())?;
-    page.text.push_str(", ")?;
-    push_time(page, &entry.revocation_date())?;
+    push_serial(printer.page, entry.user_certificate().as_bytes())?;
+    printer.push_str(", ")?;
+    push_time(printer.page, &entry.revocation_date())?;
     if let Some(extensions) = entry.crl_entry_extensions() {
-        let list = places_of(entry, octets, place.offset).crl_entry_extensions;
-        push_entry_extensions(alloc, page, octets, &list, extensions)?;
+        let list = printer.places_of(entry, place).crl_entry_extensions;
+        push_entry_extensions(printer, &list, extensions)?;
     }
-    page.text.push('\n')
+    printer.push('\n')
 }
 
 /// Adds the extensions of an entry, each after a comma, as those of a certificate are shown.
 fn push_entry_extensions(
-    alloc: Global,
-    page: &mut Page,
-    octets: &[u8],
+    printer: &mut Printer<'_>,
     list: &Place,
     extensions: &Extensions<'_>,
 ) -> Result<(), AllocError> {
-    let mut places = Items::within(octets, list);
-    for item in extensions.items().iter(alloc) {
+    let mut places = printer.items(list);
+    for item in extensions.items().iter(printer.alloc) {
         let place = places.next_item().unwrap_or(nowhere());
         let Ok(extension) = item else {
             // It was read before.
             return Err(AllocError);
         };
-        push_entry_extension(alloc, page, &place, &extension)?;
+        push_entry_extension(printer, &place, &extension)?;
     }
     Ok(())
 }
 
 fn push_entry_extension(
-    alloc: Global,
-    page: &mut Page,
+    printer: &mut Printer<'_>,
     place: &Place,
     extension: &Extension<'_>,
 ) -> Result<(), AllocError> {
-    page.text.push_str(", extension ")?;
-    push_extension(alloc, page, place, extension)
+    printer.push_str(", extension ")?;
+    push_extension(printer, place, extension)
 }

@@ -9,13 +9,14 @@ use crate::fault::{Fault, refusal};
 use crate::keys::{push_exponent, push_modulus, push_secret, push_version};
 use crate::kind::Kind;
 use crate::whole::push_title;
-use certview_parts::labels::push_count;
+use certview_parts::field_name::FieldName;
 use certview_parts::page::Page;
 use certview_parts::place::{Place, place_of_all};
+use certview_parts::printer::Printer;
+use certview_parts::rows::push_count_row;
 use der_asn1_types::FromDer;
 use der_pkix::key::RsaPrivateKey;
 use der_pkix::key::laws::grammar_of_rsa_private_key;
-use der_places::{contents_of, places_of};
 use std::alloc::{AllocError, Global};
 
 /// Adds the fields of the RSAPrivateKey that these octets are, a line each.
@@ -29,55 +30,48 @@ pub fn push_rsa_private_key(alloc: Global, page: &mut Page, octets: &[u8]) -> Re
 {
     grammar_of_rsa_private_key();
     match RsaPrivateKey::from_der(alloc, octets) {
-        Ok(key) => Ok(push_fields(alloc, page, octets, &key)?),
+        Ok(key) => Ok(push_fields(&mut Printer::new(alloc, page, octets), &key)?),
         Err(error) => Err(refusal(Kind::RsaPrivateKey, octets, error)),
     }
 }
 
-fn push_fields(
-    alloc: Global,
-    page: &mut Page,
-    octets: &[u8],
-    key: &RsaPrivateKey<'_>,
-) -> Result<(), AllocError> {
-    let whole = place_of_all(octets);
-    push_title(page, &whole, Kind::RsaPrivateKey)?;
-    let at = places_of(key, octets, whole.offset);
-    push_version(page, &at.version, key.version())?;
-    push_modulus(page, &at.modulus, key.modulus())?;
-    push_exponent(page, &at.public_exponent, key.public_exponent())?;
-    push_number(page, octets, &at.private_exponent, "privateExponent")?;
-    push_number(page, octets, &at.prime1, "prime1")?;
-    push_number(page, octets, &at.prime2, "prime2")?;
-    push_number(page, octets, &at.exponent1, "exponent1")?;
-    push_number(page, octets, &at.exponent2, "exponent2")?;
-    push_number(page, octets, &at.coefficient, "coefficient")?;
-    push_other_primes(alloc, page, &at.other_prime_infos, key)
+fn push_fields(printer: &mut Printer<'_>, key: &RsaPrivateKey<'_>) -> Result<(), AllocError> {
+    let whole = place_of_all(printer.octets);
+    push_title(printer, &whole, Kind::RsaPrivateKey)?;
+    let at = printer.places_of(key, &whole);
+    push_version(printer, &at.version, key.version())?;
+    push_modulus(printer, &at.modulus, key.modulus())?;
+    push_exponent(printer, &at.public_exponent, key.public_exponent())?;
+    push_number(printer, &at.private_exponent, FieldName::PrivateExponent)?;
+    push_number(printer, &at.prime1, FieldName::Prime1)?;
+    push_number(printer, &at.prime2, FieldName::Prime2)?;
+    push_number(printer, &at.exponent1, FieldName::Exponent1)?;
+    push_number(printer, &at.exponent2, FieldName::Exponent2)?;
+    push_number(printer, &at.coefficient, FieldName::Coefficient)?;
+    push_other_primes(printer, &at.other_prime_infos, key)
 }
 
 /// Adds how many contents octets a number has that is secret.
 fn push_number(
-    page: &mut Page,
-    octets: &[u8],
+    printer: &mut Printer<'_>,
     place: &Place,
-    name: &str,
+    field: FieldName,
 ) -> Result<(), AllocError> {
-    let count = contents_of(octets, *place).length as usize;
-    push_secret(page, place, name, count)
+    let count = printer.contents_of(*place).length as usize;
+    push_secret(printer, place, field, count)
 }
 
 /// Adds how many primes there are besides the two, where there are more.
 fn push_other_primes(
-    alloc: Global,
-    page: &mut Page,
+    printer: &mut Printer<'_>,
     place: &Place,
     key: &RsaPrivateKey<'_>,
 ) -> Result<(), AllocError> {
     let Some(primes) = key.other_prime_infos() else {
         return Ok(());
     };
-    match primes.items().count(alloc) {
-        Ok(count) => push_count(page, place, "other primes", count),
+    match primes.items().count(printer.alloc) {
+        Ok(count) => push_count_row(printer, place, FieldName::OtherPrimes, count),
         // They were read before.
         Err(_) => Err(AllocError),
     }

@@ -4,91 +4,85 @@ use crate::keys::push_version;
 use certview_parts::algorithms::push_algorithm;
 use certview_parts::attribute_rows::push_attribute_rows;
 use certview_parts::characters::Behind;
+use certview_parts::field_name::FieldName;
 use certview_parts::hexadecimal::{push_serial, push_with_colons};
-use certview_parts::items::Items;
-use certview_parts::labels::push_label;
 use certview_parts::names::push_places;
-use certview_parts::page::Page;
-use certview_parts::place::{Place, inner_at};
+use certview_parts::place::Place;
+use certview_parts::printer::Printer;
 use certview_parts::rows::{push_malformed_row, push_octets_row};
 use der_asn1_types::FromDer;
 use der_cms::cms::{IssuerAndSerialNumber, SignerIdentifier, SignerInfo};
-use der_places::places_of;
-use std::alloc::{AllocError, Global};
+use std::alloc::AllocError;
 
 /// Adds the lines of each signer of a set, in the order in which they stand.
-pub fn push_signers(
-    alloc: Global,
-    page: &mut Page,
-    octets: &[u8],
-    set: &Place,
-) -> Result<(), AllocError> {
-    let mut items = Items::within(octets, set);
+pub fn push_signers(printer: &mut Printer<'_>, set: &Place) -> Result<(), AllocError> {
+    let mut items = printer.items(set);
     for _ in 0..set.length {
         let Some(place) = items.next_item() else {
             break;
         };
-        let inner = inner_at(octets, &place);
-        match SignerInfo::from_der(alloc, inner.octets) {
-            Ok(signer) => push_signer(alloc, page, octets, &place, &signer)?,
-            Err(error) => push_malformed_row(page, &place, "signer", inner.begin, error)?,
+        let inner = printer.inner_at(&place);
+        match SignerInfo::from_der(printer.alloc, inner.octets) {
+            Ok(signer) => push_signer(printer, &place, &signer)?,
+            Err(error) => push_malformed_row(
+                printer,
+                &place,
+                FieldName::Signer,
+                inner.begin,
+                error,
+            )?,
         }
     }
     Ok(())
 }
 
 fn push_signer(
-    alloc: Global,
-    page: &mut Page,
-    octets: &[u8],
+    printer: &mut Printer<'_>,
     place: &Place,
     signer: &SignerInfo<'_>,
 ) -> Result<(), AllocError> {
-    let at = places_of(signer, octets, place.offset);
-    push_label(page, &at.sid, "signer")?;
-    push_signer_identifier(alloc, page, signer.sid())?;
-    page.text.push('\n')?;
-    push_version(page, &at.version, signer.version())?;
+    let at = printer.places_of(signer, place);
+    printer.begin(&at.sid, FieldName::Signer)?;
+    push_signer_identifier(printer, signer.sid())?;
+    printer.push('\n')?;
+    push_version(printer, &at.version, signer.version())?;
     push_algorithm(
-        alloc,
-        page,
+        printer,
         &at.digest_algorithm,
-        "digest algorithm",
+        FieldName::DigestAlgorithm,
         signer.digest_algorithm(),
     )?;
     let set = &at.signed_attrs;
-    push_attribute_rows(alloc, page, octets, set, "signed attribute")?;
+    push_attribute_rows(printer, set, FieldName::SignedAttribute)?;
     let algorithm = signer.signature_algorithm();
-    let label = "signature algorithm";
-    push_algorithm(alloc, page, &at.signature_algorithm, label, algorithm)?;
+    let field = FieldName::SignatureAlgorithm;
+    push_algorithm(printer, &at.signature_algorithm, field, algorithm)?;
     let signature = signer.signature().as_bytes();
-    push_octets_row(page, &at.signature, "signature", signature)?;
+    push_octets_row(printer, &at.signature, FieldName::Signature, signature)?;
     let set = &at.unsigned_attrs;
-    push_attribute_rows(alloc, page, octets, set, "unsigned attribute")
+    push_attribute_rows(printer, set, FieldName::UnsignedAttribute)
 }
 
 /// Adds how a certificate is named: by its serial number and its issuer, or by its key.
 pub fn push_signer_identifier(
-    alloc: Global,
-    page: &mut Page,
+    printer: &mut Printer<'_>,
     identifier: &SignerIdentifier<'_>,
 ) -> Result<(), AllocError> {
     match identifier {
-        SignerIdentifier::IssuerAndSerialNumber(issued) => push_issued(alloc, page, issued),
+        SignerIdentifier::IssuerAndSerialNumber(issued) => push_issued(printer, issued),
         SignerIdentifier::SubjectKeyIdentifier(key) => {
-            page.text.push_str("key ")?;
-            push_with_colons(page, key.value.as_bytes())
+            printer.push_str("key ")?;
+            push_with_colons(printer.page, key.value.as_bytes())
         }
     }
 }
 
 /// Adds the serial number and the issuer of a certificate.
 pub fn push_issued(
-    alloc: Global,
-    page: &mut Page,
+    printer: &mut Printer<'_>,
     issued: &IssuerAndSerialNumber<'_>,
 ) -> Result<(), AllocError> {
-    push_serial(page, issued.serial_number().as_bytes())?;
-    page.text.push_str(", ")?;
-    push_places(alloc, page, issued.issuer(), Behind::Mark)
+    push_serial(printer.page, issued.serial_number().as_bytes())?;
+    printer.push_str(", ")?;
+    push_places(printer, issued.issuer(), Behind::Mark)
 }

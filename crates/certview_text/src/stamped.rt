@@ -3,79 +3,78 @@
 use crate::keys::push_version;
 use certview_parts::algorithms::push_algorithm;
 use certview_parts::extension_rows::push_extension_rows;
-use certview_parts::labels::push_label;
+use certview_parts::field_name::FieldName;
 use certview_parts::other_names::push_other_name;
 use certview_parts::page::Page;
-use certview_parts::place::{Place, contents_at};
+use certview_parts::place::Place;
+use certview_parts::printer::Printer;
 use certview_parts::rows::{
-    push_identifier_row, push_malformed_inner_row, push_octets_row, push_serial_row, push_time_row,
+    push_identifier_row, push_malformed_inner_row, push_octets_row, push_serial_row,
 };
+use certview_parts::times::push_fractional_time;
 use der_asn1_types::FromDer;
 use der_asn1_types::asn1::IntRef;
 use der_pkix::certificate::Extensions;
-use der_places::{contents_of, places_of};
 use der_time_stamp::time_stamp::{Accuracy, MessageImprint, TstInfo};
-use std::alloc::{AllocError, Global};
+use std::alloc::AllocError;
 use std::fmt::Write;
 
 /// Adds the fields of the TSTInfo that the OCTET STRING at this place holds, a line each.
-pub fn push_stamped(
-    alloc: Global,
-    page: &mut Page,
-    octets: &[u8],
-    string: &Place,
-) -> Result<(), AllocError> {
-    let inner = contents_at(octets, string);
-    let place = contents_of(octets, *string);
-    match TstInfo::from_der(alloc, inner.octets) {
-        Ok(stamp) => push_fields(alloc, page, octets, &place, &stamp),
-        Err(error) => push_malformed_inner_row(page, &place, "time stamp", inner, error),
+pub fn push_stamped(printer: &mut Printer<'_>, string: &Place) -> Result<(), AllocError> {
+    let inner = printer.contents_at(string);
+    let place = printer.contents_of(*string);
+    match TstInfo::from_der(printer.alloc, inner.octets) {
+        Ok(stamp) => push_fields(printer, &place, &stamp),
+        Err(error) => push_malformed_inner_row(printer, &place, FieldName::TimeStamp, inner, error),
     }
 }
 
 fn push_fields(
-    alloc: Global,
-    page: &mut Page,
-    octets: &[u8],
+    printer: &mut Printer<'_>,
     place: &Place,
     stamp: &TstInfo<'_>,
 ) -> Result<(), AllocError> {
-    let at = places_of(stamp, octets, place.offset);
-    push_version(page, &at.version, stamp.version())?;
-    push_identifier_row(alloc, page, &at.policy, "policy", stamp.policy().as_bytes())?;
+    let at = printer.places_of(stamp, place);
+    push_version(printer, &at.version, stamp.version())?;
+    push_identifier_row(
+        printer,
+        &at.policy,
+        FieldName::Policy,
+        stamp.policy().as_bytes(),
+    )?;
     let imprint = stamp.message_imprint();
-    push_imprint(alloc, page, octets, &at.message_imprint, imprint)?;
+    push_imprint(printer, &at.message_imprint, imprint)?;
     let number = stamp.serial_number().as_bytes();
-    push_serial_row(page, &at.serial_number, "serial number", number)?;
-    push_time_row(page, &at.gen_time, "time", &stamp.gen_time().to_date_time())?;
+    push_serial_row(printer, &at.serial_number, FieldName::SerialNumber, number)?;
+    printer.begin(&at.gen_time, FieldName::Time)?;
+    push_fractional_time(printer.page, *stamp.gen_time())?;
+    printer.push('\n')?;
     if let Some(accuracy) = stamp.accuracy() {
-        push_label(page, &at.accuracy, "accuracy")?;
-        push_accuracy(page, &accuracy)?;
+        printer.begin(&at.accuracy, FieldName::Accuracy)?;
+        push_accuracy(printer.page, &accuracy)?;
     }
-    push_flag(page, &at.ordering, "in order", stamp.ordering())?;
-    push_nonce(page, &at.nonce, stamp.nonce())?;
+    push_flag(printer, &at.ordering, FieldName::InOrder, stamp.ordering())?;
+    push_nonce(printer, &at.nonce, stamp.nonce())?;
     if let Some(authority) = stamp.tsa() {
-        push_label(page, &at.tsa, "authority")?;
-        push_other_name(alloc, page, authority)?;
-        page.text.push('\n')?;
+        printer.begin(&at.tsa, FieldName::Authority)?;
+        push_other_name(printer, authority)?;
+        printer.push('\n')?;
     }
-    push_extensions(alloc, page, octets, &at.extensions, stamp.extensions())
+    push_extensions(printer, &at.extensions, stamp.extensions())
 }
 
 /// Adds the lines of a digest and its algorithm.
 pub fn push_imprint(
-    alloc: Global,
-    page: &mut Page,
-    octets: &[u8],
+    printer: &mut Printer<'_>,
     place: &Place,
     imprint: &MessageImprint<'_>,
 ) -> Result<(), AllocError> {
-    let at = places_of(imprint, octets, place.offset);
+    let at = printer.places_of(imprint, place);
     let algorithm = imprint.hash_algorithm();
-    let label = "digest algorithm";
-    push_algorithm(alloc, page, &at.hash_algorithm, label, algorithm)?;
+    let field = FieldName::DigestAlgorithm;
+    push_algorithm(printer, &at.hash_algorithm, field, algorithm)?;
     let digest = imprint.hashed_message().as_bytes();
-    push_octets_row(page, &at.hashed_message, "digest", digest)
+    push_octets_row(printer, &at.hashed_message, FieldName::Digest, digest)
 }
 
 /// Adds the parts of an accuracy that are there, and ends the line.
@@ -88,40 +87,36 @@ fn push_accuracy(page: &mut Page, accuracy: &Accuracy) -> Result<(), AllocError>
 
 /// Adds the line of a field that is `yes` or `no`.
 pub fn push_flag(
-    page: &mut Page,
+    printer: &mut Printer<'_>,
     place: &Place,
-    label: &str,
+    field: FieldName,
     is_set: bool,
 ) -> Result<(), AllocError> {
-    push_label(page, place, label)?;
+    printer.begin(place, field)?;
     let word = if is_set { "yes\n" } else { "no\n" };
-    page.text.push_str(word)
+    printer.push_str(word)
 }
 
 /// Adds the line of a nonce, where it is there.
 pub fn push_nonce(
-    page: &mut Page,
+    printer: &mut Printer<'_>,
     place: &Place,
     nonce: Option<&IntRef<'_>>,
 ) -> Result<(), AllocError> {
     match nonce {
-        Some(nonce) => push_serial_row(page, place, "nonce", nonce.as_bytes()),
+        Some(nonce) => push_serial_row(printer, place, FieldName::Nonce, nonce.as_bytes()),
         None => Ok(()),
     }
 }
 
 /// Adds a line for each extension, where there are some.
 pub fn push_extensions(
-    alloc: Global,
-    page: &mut Page,
-    octets: &[u8],
+    printer: &mut Printer<'_>,
     list: &Place,
     extensions: Option<&Extensions<'_>>,
 ) -> Result<(), AllocError> {
     match extensions {
-        Some(extensions) => {
-            push_extension_rows(alloc, page, octets, list, "extension", extensions)
-        }
+        Some(extensions) => { push_extension_rows(printer, list, FieldName::Extension, extensions) }
         None => Ok(()),
     }
 }

@@ -10,11 +10,12 @@ use crate::keys::push_version;
 use crate::kind::Kind;
 use crate::stamped::{push_extensions, push_flag, push_imprint, push_nonce};
 use crate::whole::push_title;
+use certview_parts::field_name::FieldName;
 use certview_parts::page::Page;
 use certview_parts::place::place_of_all;
+use certview_parts::printer::Printer;
 use certview_parts::rows::push_identifier_row;
 use der_asn1_types::FromDer;
-use der_places::places_of;
 use der_time_stamp::time_stamp::TimeStampReq;
 use der_time_stamp::time_stamp::laws::grammar_of_time_stamp_req;
 use std::alloc::{AllocError, Global};
@@ -30,27 +31,32 @@ pub fn push_query(alloc: Global, page: &mut Page, octets: &[u8]) -> Result<(), F
 {
     grammar_of_time_stamp_req();
     match TimeStampReq::from_der(alloc, octets) {
-        Ok(query) => Ok(push_fields(alloc, page, octets, &query)?),
+        Ok(query) => Ok(push_fields(&mut Printer::new(alloc, page, octets), &query)?),
         Err(error) => Err(refusal(Kind::TimeStampQuery, octets, error)),
     }
 }
 
-fn push_fields(
-    alloc: Global,
-    page: &mut Page,
-    octets: &[u8],
-    query: &TimeStampReq<'_>,
-) -> Result<(), AllocError> {
-    let whole = place_of_all(octets);
-    let at = places_of(query, octets, whole.offset);
-    push_title(page, &whole, Kind::TimeStampQuery)?;
-    push_version(page, &at.version, query.version())?;
+fn push_fields(printer: &mut Printer<'_>, query: &TimeStampReq<'_>) -> Result<(), AllocError> {
+    let whole = place_of_all(printer.octets);
+    let at = printer.places_of(query, &whole);
+    push_title(printer, &whole, Kind::TimeStampQuery)?;
+    push_version(printer, &at.version, query.version())?;
     let imprint = query.message_imprint();
-    push_imprint(alloc, page, octets, &at.message_imprint, imprint)?;
+    push_imprint(printer, &at.message_imprint, imprint)?;
     if let Some(policy) = query.req_policy() {
-        push_identifier_row(alloc, page, &at.req_policy, "policy", policy.as_bytes())?;
+        push_identifier_row(
+            printer,
+            &at.req_policy,
+            FieldName::Policy,
+            policy.as_bytes(),
+        )?;
     }
-    push_nonce(page, &at.nonce, query.nonce())?;
-    push_flag(page, &at.cert_req, "with certificate", query.cert_req())?;
-    push_extensions(alloc, page, octets, &at.extensions, query.extensions())
+    push_nonce(printer, &at.nonce, query.nonce())?;
+    push_flag(
+        printer,
+        &at.cert_req,
+        FieldName::WithCertificate,
+        query.cert_req(),
+    )?;
+    push_extensions(printer, &at.extensions, query.extensions())
 }

@@ -9,14 +9,13 @@ use crate::contents::push_content;
 use crate::fault::{Fault, refusal};
 use crate::kind::Kind;
 use crate::whole::push_title;
-use certview_parts::items::Items;
-use certview_parts::labels::push_label;
+use certview_parts::field_name::FieldName;
 use certview_parts::page::Page;
 use certview_parts::place::{Place, nowhere, place_of_all};
+use certview_parts::printer::Printer;
 use certview_parts::rows::{push_identifier_row, push_text_row};
 use der_asn1_types::FromDer;
 use der_asn1_types::asn1::NamedBitsRef;
-use der_places::{contents_of, places_of};
 use der_time_stamp::time_stamp::laws::grammar_of_time_stamp_resp;
 use der_time_stamp::time_stamp::{PkiFreeText, PkiStatusInfo, TimeStampResp, TimeStampToken};
 use std::alloc::{AllocError, Global};
@@ -74,46 +73,39 @@ pub fn push_reply(alloc: Global, page: &mut Page, octets: &[u8]) -> Result<(), F
 {
     grammar_of_time_stamp_resp();
     match TimeStampResp::from_der(alloc, octets) {
-        Ok(reply) => Ok(push_fields(alloc, page, octets, &reply)?),
+        Ok(reply) => Ok(push_fields(&mut Printer::new(alloc, page, octets), &reply)?),
         Err(error) => Err(refusal(Kind::TimeStampReply, octets, error)),
     }
 }
 
-fn push_fields(
-    alloc: Global,
-    page: &mut Page,
-    octets: &[u8],
-    reply: &TimeStampResp<'_>,
-) -> Result<(), AllocError> {
-    let whole = place_of_all(octets);
-    let at = places_of(reply, octets, whole.offset);
-    push_title(page, &whole, Kind::TimeStampReply)?;
-    push_status(alloc, page, octets, &at.status, reply.status())?;
+fn push_fields(printer: &mut Printer<'_>, reply: &TimeStampResp<'_>) -> Result<(), AllocError> {
+    let whole = place_of_all(printer.octets);
+    let at = printer.places_of(reply, &whole);
+    push_title(printer, &whole, Kind::TimeStampReply)?;
+    push_status(printer, &at.status, reply.status())?;
     match reply.time_stamp_token() {
-        Some(token) => push_token(alloc, page, octets, &at.time_stamp_token, token),
+        Some(token) => push_token(printer, &at.time_stamp_token, token),
         None => Ok(()),
     }
 }
 
 /// Adds the status, its texts, and what went wrong, where these are there.
 fn push_status(
-    alloc: Global,
-    page: &mut Page,
-    octets: &[u8],
+    printer: &mut Printer<'_>,
     place: &Place,
     status: &PkiStatusInfo<'_>,
 ) -> Result<(), AllocError> {
-    let at = places_of(status, octets, place.offset);
-    push_label(page, &at.status, "status")?;
-    push_status_name(page, status.status())?;
-    page.text.push('\n')?;
+    let at = printer.places_of(status, place);
+    printer.begin(&at.status, FieldName::Status)?;
+    push_status_name(printer.page, status.status())?;
+    printer.push('\n')?;
     if let Some(texts) = status.status_string() {
-        push_texts(alloc, page, octets, &at.status_string, texts)?;
+        push_texts(printer, &at.status_string, texts)?;
     }
     match status.fail_info() {
         Some(bits) => {
-            push_label(page, &at.fail_info, "failure")?;
-            push_failures(page, *bits)
+            printer.begin(&at.fail_info, FieldName::Failure)?;
+            push_failures(printer.page, *bits)
         }
         None => Ok(()),
     }
@@ -127,20 +119,18 @@ fn push_status_name(page: &mut Page, status: u8) -> Result<(), AllocError> {
 }
 
 fn push_texts(
-    alloc: Global,
-    page: &mut Page,
-    octets: &[u8],
+    printer: &mut Printer<'_>,
     list: &Place,
     texts: &PkiFreeText<'_>,
 ) -> Result<(), AllocError> {
-    let mut places = Items::within(octets, list);
-    for item in texts.items().iter(alloc) {
+    let mut places = printer.items(list);
+    for item in texts.items().iter(printer.alloc) {
         let place = places.next_item().unwrap_or(nowhere());
         let Ok(text) = item else {
             // It was read before.
             return Err(AllocError);
         };
-        push_text_row(page, &place, "status text", text.as_str())?;
+        push_text_row(printer, &place, FieldName::StatusText, text.as_str())?;
     }
     Ok(())
 }
@@ -169,15 +159,18 @@ fn push_failure(page: &mut Page, index: usize) -> Result<(), AllocError> {
 
 /// Adds the lines of a time stamp, a message of CMS.
 fn push_token(
-    alloc: Global,
-    page: &mut Page,
-    octets: &[u8],
+    printer: &mut Printer<'_>,
     place: &Place,
     token: &TimeStampToken<'_>,
 ) -> Result<(), AllocError> {
-    let at = places_of(token, octets, place.offset);
+    let at = printer.places_of(token, place);
     let identifier = token.content_type().as_bytes();
-    push_identifier_row(alloc, page, &at.content_type, "content type", identifier)?;
-    let content = contents_of(octets, at.content);
-    push_content(alloc, page, octets, &content, identifier)
+    push_identifier_row(
+        printer,
+        &at.content_type,
+        FieldName::ContentType,
+        identifier,
+    )?;
+    let content = printer.contents_of(at.content);
+    push_content(printer, &content, identifier)
 }

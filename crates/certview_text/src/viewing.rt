@@ -11,6 +11,7 @@ use crate::pem::is_text;
 use crate::readable::push_parts;
 use certview_parts::asked::Asked;
 use certview_parts::characters::push_plain;
+use certview_parts::field_name::FieldName;
 use certview_parts::form::{Form, Writer};
 use certview_parts::page::{ItemKind, Page};
 use std::alloc::{AllocError, Global};
@@ -23,10 +24,8 @@ pub struct View<'a> {
     pub name: Option<&'a str>,
     /// In which form.
     pub form: Form,
-    /// The names of the fields that are shown; all, where there are none.
-    pub fields: Option<&'a [&'a str]>,
-    /// Whether the SHA-256 of each message is shown.
-    pub has_fingerprint: bool,
+    /// The fields that are shown; all, where none are named.
+    pub fields: Option<&'a [FieldName]>,
     /// What is asked of each message besides.
     pub asked: Asked,
 }
@@ -51,7 +50,6 @@ impl<'a> View<'a> {
             name: None,
             form: Form::Text,
             fields: None,
-            has_fingerprint: false,
             asked: Asked::nothing(),
         }
     }
@@ -214,13 +212,13 @@ fn push_input(alloc: Global, page: &mut Page, view: &View<'_>, input: &[u8]) -> 
         return Err(Fault::Empty);
     }
     if is_text(input) {
-        return push_blocks(alloc, page, view.has_fingerprint, input);
+        return push_blocks(alloc, page, input);
     }
     if !begins_message(input) {
         return Err(Fault::NoMessage);
     }
     let kind = kind_of(input);
-    push_octets(alloc, page, view.has_fingerprint, kind, input)
+    push_octets(alloc, page, kind, input)
 }
 
 /// Adds why an input is refused, and what can be read of it.

@@ -4,8 +4,9 @@ use crate::kind::Kind;
 use crate::parts::Part;
 use crate::shape::Shape;
 use crate::site::Site;
-use certview_parts::page::{ItemKind, Page};
+use certview_parts::page::ItemKind;
 use certview_parts::place::Place;
+use certview_parts::printer::Printer;
 use std::alloc::AllocError;
 
 /// A message of a kind: all of the octets.
@@ -14,9 +15,9 @@ pub fn whole_of(octets: &[u8], kind: Kind) -> Site {
 }
 
 /// Begins a message: where it stands, and what a person calls it.
-pub fn push_title(page: &mut Page, place: &Place, kind: Kind) -> Result<(), AllocError> {
-    page.begin(ItemKind::Message(*place), kind.name())?;
-    page.text.push('\n')
+pub fn push_title(printer: &mut Printer<'_>, place: &Place, kind: Kind) -> Result<(), AllocError> {
+    printer.page.begin(ItemKind::Message(*place), kind.name())?;
+    printer.push('\n')
 }
 
 /// What a message of a kind is made of.

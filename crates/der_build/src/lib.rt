@@ -18,7 +18,7 @@ mod names;
 mod text_rules;
 
 pub use attributes::{TextAttribute, attribute};
+pub use der_verify::{character_count, may_have};
 pub use extensions::extension;
 pub use keys::{ed25519_key, p256_key, rsa_key, rsa_public_key};
 pub use names::name;
-pub use text_rules::{character_count, may_have};

@@ -1,7 +1,7 @@
 //! The library for programs in C, and in what calls C: calls over octets that keep nothing.
 //!
 //! Each takes octets as an address and their number, answers 0 or the number of the first fault, and
-//! writes the places of the fields where the caller says. `c/include/der.h` is the header.
+//! writes the places of the fields where the caller says. `c/include/barleypulley/der.h` is the header.
 #![tactic(auto)]
 
 mod attribute;

@@ -5,7 +5,7 @@ ghost use Rattle.std.specs.Prelude.{◌≡◌};
 /// The version of what crosses to C: it changes where a struct, a number or a promise does.
 #[unsafe(no_mangle)]
 pub extern "C" fn der_abi_version() -> u32
-    ensures { result ≡ 1 }
+    ensures { result ≡ 2 }
 {
-    1
+    2
 }

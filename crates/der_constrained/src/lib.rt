@@ -1,5 +1,5 @@
-//! Types of which a constraint allows some values (X.680 49 to 51): ranges of INTEGER, sizes and
-//! permitted alphabets of strings, and unions and intersections of these.
+//! Types of which a constraint allows some values (X.680 49 to 51): ranges of INTEGER, sizes of strings
+//! and lists, permitted alphabets of strings, and unions and intersections of these.
 //!
 //! ```rust
 //! type Small = Constrained<u8, InRange<0, 10>>;
@@ -12,6 +12,7 @@
 #![tactic(auto)]
 
 mod alphabets;
+mod components;
 mod constrained;
 mod constraint;
 mod integers;

@@ -1,17 +1,21 @@
-//! Sizes of strings (X.680 51.5).
+//! Sizes of strings and lists (X.680 51.5).
 
-ghost use Rattle.std.specs.Prelude.{◌≡◌, chars, length};
+ghost use Rattle.std.specs.Prelude.{◌≡◌, ◌<◌, ◌^◌, chars, length};
 ghost use Rattle.der_constrained.specs.Sizes.{in_sizes, size_in_bits, size_in_characters, size_in_octets};
+ghost use Rattle.der_constrained.specs.Components.{size_in_components};
 
+use crate::components::count_components;
 use crate::constraint::Constraint;
 use der_ascii::CharacterStringRef;
 use der_bits::BitStringRef;
+use der_elem::Form;
+use der_lists::{ListRef, SetRef, UnorderedSetRef};
 use der_opaque::OctetStringRef;
 use der_simple::SimpleStringRef;
 use der_text::Utf8StringRef;
 
 /// `SIZE (LEAST..GREATEST)`: of a string of characters how many there are, of an OCTET STRING how
-/// many octets, of a BIT STRING how many bits.
+/// many octets, of a BIT STRING how many bits, of a SEQUENCE OF or a SET OF how many components.
 pub struct HasSize<const LEAST: u32, const GREATEST: u32>;
 
 /// Whether the size is allowed.
@@ -19,6 +23,14 @@ fn is_in_sizes(least: u32, greatest: u32, size: usize) -> bool
     ensures { result ≡ in_sizes least greatest size }
 {
     least as usize <= size && size <= greatest as usize
+}
+
+/// Whether the number of encodings that the octets are is allowed.
+fn components_in_sizes(least: u32, greatest: u32, octets: &[u8]) -> bool
+    requires { length octets.now < 2 ^ 32 }
+    ensures { result ≡ size_in_components least greatest octets.now }
+{
+    is_in_sizes(least, greatest, count_components(octets))
 }
 
 /// How many characters a text has.
@@ -73,5 +85,32 @@ impl<'a, const LEAST: u32, const GREATEST: u32> Constraint<Utf8StringRef<'a>>
 
     fn allows(value: &Utf8StringRef<'a>) -> bool {
         is_in_sizes(LEAST, GREATEST, character_count(value.as_str()))
+    }
+}
+
+impl<'a, T: Form, const LEAST: u32, const GREATEST: u32> Constraint<ListRef<'a, T>>
+    for HasSize<LEAST, GREATEST> {
+    ghost allows = { size_in_components LEAST GREATEST };
+
+    fn allows(value: &ListRef<'a, T>) -> bool {
+        components_in_sizes(LEAST, GREATEST, value.as_bytes())
+    }
+}
+
+impl<'a, T: Form, const LEAST: u32, const GREATEST: u32> Constraint<SetRef<'a, T>>
+    for HasSize<LEAST, GREATEST> {
+    ghost allows = { size_in_components LEAST GREATEST };
+
+    fn allows(value: &SetRef<'a, T>) -> bool {
+        components_in_sizes(LEAST, GREATEST, value.as_bytes())
+    }
+}
+
+impl<'a, T: Form, const LEAST: u32, const GREATEST: u32> Constraint<UnorderedSetRef<'a, T>>
+    for HasSize<LEAST, GREATEST> {
+    ghost allows = { size_in_components LEAST GREATEST };
+
+    fn allows(value: &UnorderedSetRef<'a, T>) -> bool {
+        components_in_sizes(LEAST, GREATEST, value.as_bytes())
     }
 }

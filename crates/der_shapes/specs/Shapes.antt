@@ -7,6 +7,7 @@ pub mod Counted
 pub mod DefaultLaws
 pub mod Described
 pub mod Extensible
+pub mod Few
 pub mod Filter
 pub mod General
 pub mod Grammar
@@ -24,6 +25,7 @@ pub mod Numbers
 pub mod Ordered
 pub mod Pair
 pub mod Session
+pub mod Sizes
 pub mod Status
 pub mod Subtree
 pub mod Titled

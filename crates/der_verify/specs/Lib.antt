@@ -1,3 +1,4 @@
+pub mod Bounds
 pub mod EqualEncodings
 pub mod Extensions
 pub mod Names

@@ -5,7 +5,7 @@ use Rattle.der_tlv.specs.declared.tag.Tag.{Tag}
 use Rattle.der_tlv.specs.declared.tag.Tag.TheVariants as tags
 use Rattle.der_opaque.specs.AnyRef.{contents_of, tag_of}
 use Rattle.der_opaque.specs.ObjectIdentifierRef.{octets_of}
-use Rattle.der_build.specs.Attributes.{character_count, fewest, most}
+use Rattle.der_verify.specs.Bounds.{character_count, fewest, most}
 use Rattle.der_pkix.specs.declared.name.attribute_type_and_value.AttributeTypeAndValue.{AttributeTypeAndValue}
 use Rattle.der_pkix.specs.Name.AttributeTypeAndValue as attribute
 

@@ -2,6 +2,7 @@
 //! RFC 5280 asks beyond the grammar.
 #![tactic(auto)]
 
+mod bounds;
 mod extensions;
 mod names;
 mod rfc5280;
@@ -10,6 +11,7 @@ mod signed;
 mod sizes;
 mod time;
 
+pub use bounds::{character_count, may_have};
 pub use extensions::find_extension;
 pub use names::{names_match, values_match};
 pub use rfc5280::{

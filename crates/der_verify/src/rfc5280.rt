@@ -17,6 +17,12 @@ ghost use Rattle.der_verify.specs.Rfc5280.{breaks, breaks_otherwise, breaks_with
 use crate::extensions::{has_identifier, one_has};
 use crate::shown::{ShownTest, one_passes};
 use der_elem::Form;
+use der_extensions::extension::constants::{
+    ID_CE_AUTHORITY_KEY_IDENTIFIER, ID_CE_BASIC_CONSTRAINTS, ID_CE_FRESHEST_CRL,
+    ID_CE_INHIBIT_ANY_POLICY, ID_CE_NAME_CONSTRAINTS, ID_CE_POLICY_CONSTRAINTS,
+    ID_CE_SUBJECT_ALT_NAME, ID_CE_SUBJECT_DIRECTORY_ATTRIBUTES, ID_CE_SUBJECT_KEY_IDENTIFIER,
+    ID_PE_AUTHORITY_INFO_ACCESS, ID_PE_SUBJECT_INFO_ACCESS,
+};
 use der_lists::ListRef;
 use der_pkix::AlgorithmIdentifier;
 use der_pkix::certificate::{Certificate, Extension, TbsCertificate};
@@ -202,23 +208,29 @@ impl CertificateRule {
     {
         match self {
             CertificateRule::AuthorityKeyIdentifierIsNotCritical => Some((
-                &[0x55, 0x1d, 0x23],
+                &ID_CE_AUTHORITY_KEY_IDENTIFIER,
                 true,
             )),
-            CertificateRule::SubjectKeyIdentifierIsNotCritical => Some((&[0x55, 0x1d, 0x0e], true)),
+            CertificateRule::SubjectKeyIdentifierIsNotCritical => Some((
+                &ID_CE_SUBJECT_KEY_IDENTIFIER,
+                true,
+            )),
             CertificateRule::SubjectDirectoryAttributesIsNotCritical => {
-                Some((&[0x55, 0x1d, 0x09], true))
+                Some((&ID_CE_SUBJECT_DIRECTORY_ATTRIBUTES, true))
             }
-            CertificateRule::FreshestCrlIsNotCritical => Some((&[0x55, 0x1d, 0x2e], true)),
+            CertificateRule::FreshestCrlIsNotCritical => Some((&ID_CE_FRESHEST_CRL, true)),
             CertificateRule::AuthorityInfoAccessIsNotCritical => {
-                Some((&[0x2b, 0x06, 0x01, 0x05, 0x05, 0x07, 0x01, 0x01], true))
+                Some((&ID_PE_AUTHORITY_INFO_ACCESS, true))
             }
             CertificateRule::SubjectInfoAccessIsNotCritical => {
-                Some((&[0x2b, 0x06, 0x01, 0x05, 0x05, 0x07, 0x01, 0x0b], true))
+                Some((&ID_PE_SUBJECT_INFO_ACCESS, true))
             }
-            CertificateRule::NameConstraintsIsCritical => Some((&[0x55, 0x1d, 0x1e], false)),
-            CertificateRule::PolicyConstraintsIsCritical => Some((&[0x55, 0x1d, 0x24], false)),
-            CertificateRule::InhibitAnyPolicyIsCritical => Some((&[0x55, 0x1d, 0x36], false)),
+            CertificateRule::NameConstraintsIsCritical => Some((&ID_CE_NAME_CONSTRAINTS, false)),
+            CertificateRule::PolicyConstraintsIsCritical => Some((
+                &ID_CE_POLICY_CONSTRAINTS,
+                false,
+            )),
+            CertificateRule::InhibitAnyPolicyIsCritical => Some((&ID_CE_INHIBIT_ANY_POLICY, false)),
             _ => None,
         }
     }
@@ -241,7 +253,7 @@ impl CertificateRule {
             CertificateRule::IssuerIsNotEmpty => is_empty_name(certificate.issuer()),
             CertificateRule::EmptySubjectHasCriticalAltName => {
                 is_empty_name(certificate.subject())
-                    && !has_criticality_in(alloc, certificate, &[0x55, 0x1d, 0x11], true)
+                    && !has_criticality_in(alloc, certificate, &ID_CE_SUBJECT_ALT_NAME, true)
             }
             CertificateRule::UniqueIdentifiersInVersion2 => {
                 has_unique_identifier(certificate) && certificate.version() == 0
@@ -401,7 +413,7 @@ impl<'a> ShownTest<Extension<'a>> for IsUncriticalCa {
 fn is_uncritical(extension: &Extension<'_>) -> bool
     ensures { result ≡ is_uncritical_ca extension.now }
 {
-    extension.extn_id().as_bytes() == [0x55, 0x1d, 0x13].as_slice()
+    extension.extn_id().as_bytes() == ID_CE_BASIC_CONSTRAINTS.as_slice()
         && !extension.critical()
         && is_ca(extension.extn_value().as_bytes())
 }

@@ -7,8 +7,8 @@ ghost use Rattle.der_pkix.specs.declared.name.attribute_type_and_value.Attribute
 ghost use Rattle.der_verify.specs.Names.{AreParts};
 ghost use Rattle.der_verify.specs.Sizes.{characters, size_holds, sizes_hold};
 
+use crate::bounds::{character_count, may_have};
 use crate::shown::{ShownTest, all_pass};
-use der_build::{character_count, may_have};
 use der_elem::Form;
 use der_opaque::AnyRef;
 use der_pkix::name::{AttributeTypeAndValue, Name, RelativeDistinguishedName};
@@ -29,7 +29,7 @@ pub fn sizes_hold<'a>(alloc: Global, name: &Name<'a>) -> bool
     all_pass(name.items().iter(alloc), &PartSizesHold { alloc })
 }
 
-/// The same of one attribute.
+/// Whether the text of an attribute has a number of characters that its type allows.
 pub fn size_holds(attribute: &AttributeTypeAndValue<'_>) -> bool
     ensures { result ≡ size_holds attribute.now }
 {

@@ -5,6 +5,7 @@ mod callers;
 mod enveloped;
 mod examples;
 mod messages;
+mod path;
 mod pkcs;
 mod pkix;
 mod places;
@@ -19,15 +20,15 @@ use std::cmp::Ordering;
 use std::fmt::Debug;
 use std::process::Abort;
 
-/// Asserts that what was found is what is wanted.
+/// Asserts that the value found is the value wanted.
 ///
-/// The proof of a test takes an assertion in its own body with all that stands before it; so
-/// assertions stand in functions of their own, and each is proved once.
+/// The proof of a test takes an assertion in its own body with all statements before it; so
+/// assertions are in functions of their own, and each is proved once.
 fn same<T: PartialEq + Debug + Drop>(rt: &impl Abort, found: T, wanted: T) {
     assert_eq!(rt; found, wanted);
 }
 
-/// The same in one of several cases, which is told where it fails.
+/// Asserts the same in one of several cases, which a failure names.
 fn same_in<C: Debug, T: PartialEq + Debug + Drop>(rt: &impl Abort, case: &C, found: T, wanted: T) {
     assert_eq!(rt; found, wanted, "{case:?}");
 }
@@ -37,13 +38,13 @@ fn holds(rt: &impl Abort, condition: bool) {
     assert!(rt; condition);
 }
 
-/// Puts another octet in a place.
+/// Puts another octet at a position.
 fn put(rt: &impl Abort, octets: &mut Vec<u8>, place: usize, octet: u8) {
     assert!(rt; place < octets.len());
     octets[place] = octet;
 }
 
-/// What was found, or the number of why it was not.
+/// The value, or the number of the error.
 fn numbered<T>(found: Result<T, Error>) -> Result<T, u8> {
     match found {
         Ok(value) => Ok(value),
@@ -51,7 +52,7 @@ fn numbered<T>(found: Result<T, Error>) -> Result<T, u8> {
     }
 }
 
-/// The encoding of what the octets are read as, or the number of the refusal.
+/// The encoding of the value that the octets are read as, or the number of the refusal.
 fn again<'a, T: FromDer<'a> + Encode>(alloc: Global, octets: &'a [u8]) -> Result<Vec<u8>, u8> {
     match T::from_der(alloc, octets) {
         Ok(value) => numbered(value.to_der(alloc)),
@@ -59,7 +60,7 @@ fn again<'a, T: FromDer<'a> + Encode>(alloc: Global, octets: &'a [u8]) -> Result
     }
 }
 
-/// The octets in room of their own, or the number of no memory.
+/// A copy of the octets, or the number of the refusal of memory.
 fn copied(alloc: Global, octets: &[u8]) -> Result<Vec<u8>, u8> {
     match Vec::from_slice(alloc, octets) {
         Ok(octets) => Ok(octets),
@@ -88,7 +89,7 @@ fn read_and_compared<'a, T: FromDer<'a> + DerOrd + PartialEq>(
     }
 }
 
-/// Whether a copy is equal to what it is of.
+/// Whether a copy is equal to its source.
 fn is_copied<T: Duplicate + PartialEq>(value: &T) -> bool {
     match value.duplicate() {
         Ok(copy) => copy == *value,

@@ -17,8 +17,10 @@ one of these has a __new__ of its own where it takes more than the octets.
     >>> [bytes(extension.identifier) for extension in certificate.extensions if extension.is_critical]
     [b'U\\x1d\\x13']
 
-Octets that are refused raise Error, a ValueError whose arguments are the number of the first fault, its words, and how
-many octets had been read, or None.
+Two messages are equal if they are of one class and have equal octets. A message has a hash if nobody can write its octets.
+
+Octets that are refused raise Error, a ValueError with the number of the first fault, its words, and its position. A date before
+1970 is refused (13).
 """
 
 from __future__ import annotations
@@ -27,8 +29,8 @@ from collections.abc import Iterator
 from datetime import datetime
 from enum import Enum, IntFlag
 
-from . import _der, _places
-from ._der import Error
+from . import _der, _places, _text
+from ._error import Error
 
 __all__ = [
     "Attribute",
@@ -109,8 +111,14 @@ class Certificate(_der.Certificate):
     # end of fields of Certificate
     not_before = _der.moment(_places.Certificate.not_before, "`notBefore`.")
     not_after = _der.moment(_places.Certificate.not_after, "`notAfter`; the certificate is valid in this second too.")
-    version = _der.number(_places.Certificate.version_number, "1, 2 or 3.", 1)
+    version = _der.number(
+        _places.Certificate.version_number, "1, 2 or 3; the grammar accepts other versions up to 256.", 1
+    )
     extensions = _der.items(_places.Certificate.extensions, "The extensions, in their order.", 2, Extension)
+
+    def __repr__(self) -> str:
+        serial = int.from_bytes(contents(self.serial_number), signed=True)
+        return f"<Certificate {_name_text(self.subject)}, serial number {serial:#x}, until {self.not_after.isoformat()}>"
 
 
 class RevokedCertificate(_der.RevokedCertificate):
@@ -149,6 +157,9 @@ class CertificateList(_der.CertificateList):
         _places.CertificateList.revoked_certificates, "The entries, in their order.", 1, RevokedCertificate
     )
     extensions = _der.items(_places.CertificateList.crl_extensions, "The extensions, in their order.", 2, Extension)
+
+    def __repr__(self) -> str:
+        return f"<CertificateList of {_name_text(self.issuer)}, of {self.this_update.isoformat()}>"
 
 
 class SubjectPublicKeyInfo(_der.SubjectPublicKeyInfo):
@@ -190,9 +201,23 @@ class AttributeTypeAndValue(_der.AttributeTypeAndValue):
     )
 
 
+    def __repr__(self) -> str:
+        return f"<AttributeTypeAndValue {_attribute_text(self)}>"
+
+
 def name_attributes(name: Octets) -> Iterator[AttributeTypeAndValue]:
     """The attributes of a name that was read, as the issuer of a certificate, in their order."""
     return _der.name_attributes(name, AttributeTypeAndValue)
+
+
+def _attribute_text(attribute: AttributeTypeAndValue) -> str:
+    value = _text.value_text(attribute.value[0], bytes(contents(attribute.value)))
+    return f"{_text.type_text(bytes(attribute.identifier))}={value}"
+
+
+def _name_text(name: Octets) -> str:
+    """The attributes of a name for people, such as 'C=GB, CN=mill'."""
+    return ", ".join(map(_attribute_text, name_attributes(name))) or "with an empty name"
 
 
 class Attribute(_der.Attribute):
@@ -227,6 +252,9 @@ class CertificationRequest(_der.CertificationRequest):
     subject_pk_info = _der.field(5, "`subjectPKInfo` of `certificationRequestInfo`, a SubjectPublicKeyInfo.")
     # end of fields of CertificationRequest
     attributes = _der.items(_places.CertificationRequest.attributes, "The attributes, in their order.", 1, Attribute)
+
+    def __repr__(self) -> str:
+        return f"<CertificationRequest {_name_text(self.subject)}>"
 
 
 class OcspResponse(_der.OcspResponse):

@@ -108,7 +108,11 @@ PyTypeObject *add_class(PyObject *module, PyType_Spec *spec, PyTypeObject *base)
 
 PyMODINIT_FUNC PyInit__der(void)
 {
-    PyObject *module = PyModule_Create(&definition);
+    PyObject *module;
+    if (der_abi_version() != DER_ABI_VERSION)
+        return PyErr_Format(PyExc_ImportError, "libder_c has version %lu of its interface, and derproved is for version %d",
+                            (unsigned long)der_abi_version(), DER_ABI_VERSION);
+    module = PyModule_Create(&definition);
     if (module != NULL && (add_messages(module) != 0 || add_items(module) != 0 || add_fields(module) != 0))
         Py_CLEAR(module);
     return module;

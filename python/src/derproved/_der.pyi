@@ -1,16 +1,17 @@
 from collections.abc import Buffer, Iterator
 from datetime import datetime
+from ._error import Error as Error
 from typing import Generic, Never, Self, TypeVar, overload
 
 T = TypeVar("T", covariant=True)
 M = TypeVar("M", bound=Message)
 
-class Error(ValueError):
-    args: tuple[int, str, int | None]
-
 class Message:
     def __new__(cls, octets: Buffer) -> Self: ...
     def __bytes__(self) -> bytes: ...
+    def __eq__(self, other: object, /) -> bool: ...
+    def __hash__(self) -> int: ...
+    def __repr__(self) -> str: ...
     def __getnewargs__(self) -> tuple[bytes]: ...
 
 # written by tools/bindings: classes

@@ -6,7 +6,7 @@
 #include <stdbool.h>
 #include <string.h>
 
-#include "der.h"
+#include <barleypulley/der.h>
 
 /* An extension has a number of 32 bits behind its places, which is widened. */
 typedef struct extension_told {
@@ -55,6 +55,20 @@ typedef struct message {
 } message;
 
 static_assert(offsetof(message, places) % sizeof(uint64_t) == 0, "numbers stand where they may");
+
+/* A place whose offset counts from so many octets earlier. */
+static inline der_place moved(uint32_t before, der_place place)
+{
+    place.offset += before;
+    return place;
+}
+
+/* Moves the start of a place past so many octets. */
+static inline void take(der_place *left, uint32_t length)
+{
+    left->offset += length;
+    left->length -= length;
+}
 
 /* octets.c: a memoryview is plain that has items of one octet, in one dimension */
 

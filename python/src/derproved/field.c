@@ -47,7 +47,7 @@ static int go_into(message *of, unsigned count, der_place *place)
         return -1;
     first = (const uint8_t *)seen.buf + of->start;
     for (; count > 0 && place->length > 0; count--)
-        *place = der_behind(place->offset, contents_of_all(first + place->offset, place->length));
+        *place = moved(place->offset, contents_of_all(first + place->offset, place->length));
     PyBuffer_Release(&seen);
     return 0;
 }
@@ -99,7 +99,7 @@ static PyObject *get_items(const field *self, message *of)
     PyObject *view = view_of(of);
     if (view == NULL || go_into(of, self->more, &left) != 0)
         return NULL;
-    return make_items(self->kind, self->class, view, der_behind((uint32_t)of->start, left), nothing);
+    return make_items(self->kind, self->class, view, moved((uint32_t)of->start, left), nothing);
 }
 
 /* A field as `get` gets it. The arguments are the index of its place or number, its documentation, and what the maker says. */

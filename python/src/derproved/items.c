@@ -29,8 +29,8 @@ static void enter_part(const uint8_t *octets, der_place *left, der_place *parts)
 {
     const uint8_t *first = octets + parts->offset;
     der_place front = {0, 0}, part = {0, der_next_encoding(first, parts->length, &front).length};
-    *left = der_behind(parts->offset, der_contents(first, part.length, &part));
-    der_take(parts, part.length);
+    *left = moved(parts->offset, der_contents(first, part.length, &part));
+    take(parts, part.length);
 }
 
 /* The next item; after one that is refused nothing is left. */
@@ -47,7 +47,7 @@ static PyObject *next_item(PyObject *self)
     item = read_at(of->kind, of->class, of->view, seen.buf, left.offset, left.length);
     PyBuffer_Release(&seen);
     if (item != NULL)
-        der_take(&left, (uint32_t)((message *)item)->length);
+        take(&left, (uint32_t)((message *)item)->length);
     of->left = item != NULL ? left : nothing;
     of->parts = item != NULL ? parts : nothing;
     return item;

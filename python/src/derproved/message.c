@@ -17,6 +17,15 @@ PyObject *refuse(const der_fault *fault)
     return NULL;
 }
 
+/* Finds the class Error, of _error.py. */
+static int find_error(PyObject *module)
+{
+    PyObject *own = PyImport_ImportModule("derproved._error");
+    Error = own == NULL ? NULL : PyObject_GetAttrString(own, "Error");
+    Py_XDECREF(own);
+    return Error == NULL ? -1 : PyModule_AddObjectRef(module, "Error", Error);
+}
+
 static size_t told_size(const kind *of)
 {
     return of->places * sizeof(der_place) + of->numbers * sizeof(uint64_t);
@@ -110,6 +119,49 @@ static PyObject *arguments_of(PyObject *self, PyObject *nothing)
     return bytes == NULL ? NULL : Py_BuildValue("(N)", bytes);
 }
 
+/* Messages of one class are equal if their octets are. */
+static PyObject *compare(PyObject *self, PyObject *other, int operation)
+{
+    PyObject *own, *others, *result;
+    if ((operation != Py_EQ && operation != Py_NE) || Py_TYPE(self) != Py_TYPE(other))
+        return Py_NewRef(Py_NotImplemented);
+    own = bytes_of(self, NULL);
+    others = own == NULL ? NULL : bytes_of(other, NULL);
+    result = others == NULL ? NULL : PyObject_RichCompare(own, others, operation);
+    Py_XDECREF(own);
+    Py_XDECREF(others);
+    return result;
+}
+
+/* The hash of a message is that of its octets, which must be ones that nobody can write. */
+static Py_hash_t hash(PyObject *self)
+{
+    Py_buffer seen;
+    PyObject *bytes;
+    Py_hash_t found;
+    bool is_written;
+    if (PyObject_GetBuffer(((message *)self)->octets, &seen, PyBUF_SIMPLE) != 0)
+        return -1;
+    is_written = !seen.readonly;
+    PyBuffer_Release(&seen);
+    if (is_written) {
+        PyErr_SetString(PyExc_TypeError, "a message of octets that can be written has no hash");
+        return -1;
+    }
+    bytes = bytes_of(self, NULL);
+    found = bytes == NULL ? -1 : PyObject_Hash(bytes);
+    Py_XDECREF(bytes);
+    return found;
+}
+
+static PyObject *represent(PyObject *self)
+{
+    PyObject *name = PyType_GetName(Py_TYPE(self)), *text;
+    text = name == NULL ? NULL : PyUnicode_FromFormat("<%U of %zd octets>", name, ((message *)self)->length);
+    Py_XDECREF(name);
+    return text;
+}
+
 /* What the __init__ of a class that derives from one of these may call: the octets have been read by then. */
 static int initialise(PyObject *self, PyObject *arguments, PyObject *named)
 {
@@ -145,6 +197,9 @@ static PyType_Slot message_slots[] = {
     {Py_tp_doc, "Octets, and the places of fields in them."},
     {Py_tp_methods, methods},
     {Py_tp_init, initialise},
+    {Py_tp_richcompare, compare},
+    {Py_tp_hash, hash},
+    {Py_tp_repr, represent},
     {Py_tp_traverse, visit_message},
     {Py_tp_dealloc, drop_message},
     {0, NULL},
@@ -246,9 +301,7 @@ static PyTypeObject *add_kind(PyObject *module, const kind *of)
 int add_messages(PyObject *module)
 {
     size_t i;
-    Error = PyErr_NewExceptionWithDoc("derproved.Error", "Why octets are refused: number, words, position.",
-                                      PyExc_ValueError, NULL);
-    if (PyModule_AddObjectRef(module, "Error", Error) != 0)
+    if (find_error(module) != 0)
         return -1;
     Message = add_class(module, &message_spec, NULL);
     for (i = 0; Message != NULL && i < kind_count; i++) {

@@ -1,5 +1,12 @@
-//! The calls of `libder_c`, as `c/include/der.h` documents them. `der-proved` has safe ones.
+//! The calls of `libder_c`, as `barleypulley/der.h` documents them, and safe calls over slices in [`safe`]. The crate
+//! `der-proved` has a type for each message.
 #![no_std]
+#![warn(missing_docs)]
+
+pub mod safe;
+
+/// The version of the library's interface, `DER_ABI_VERSION`.
+pub const ABI_VERSION: u32 = 2;
 
 /// Where an encoding stands. A field that is absent has the place of no octets.
 #[repr(C)]
@@ -54,11 +61,11 @@ pub struct CertificateAt {
     pub subject_unique_id: Place,
     /// With their explicit tag \[3\].
     pub extensions: Place,
-    /// In seconds from 1970-01-01T00:00:00Z, with no leap seconds.
+    /// In seconds from 1970-01-01T00:00:00Z, with no leap seconds; an earlier date is refused (13).
     pub not_before: u64,
-    /// The same; the certificate is valid in this second too.
+    /// The last second in which the certificate is valid; a date before 1970 is refused (13).
     pub not_after: u64,
-    /// 0 for v1, 1 for v2, 2 for v3.
+    /// 0 for v1, 1 for v2, 2 for v3; numbers up to 255 are accepted.
     pub version_number: u64,
 }
 
@@ -102,11 +109,11 @@ pub struct CertificateListAt {
     pub revoked_certificates: Place,
     /// With their explicit tag \[0\].
     pub crl_extensions: Place,
-    /// From 1970-01-01T00:00:00Z.
+    /// In seconds from 1970-01-01T00:00:00Z; an earlier date is refused (13).
     pub this_update_seconds: u64,
-    /// 0 where the field is absent.
+    /// In such seconds, 0 if the field is absent; a date before 1970 is refused (13).
     pub next_update_seconds: u64,
-    /// 0 for v1, where the field is absent; 1 for v2.
+    /// 0 for v1, where the field is absent; 1 for v2; numbers up to 255 are accepted.
     pub version_number: u64,
 }
 
@@ -122,7 +129,7 @@ pub struct RevokedCertificateAt {
     pub revocation_date: Place,
     /// A SEQUENCE OF.
     pub crl_entry_extensions: Place,
-    /// From 1970-01-01T00:00:00Z.
+    /// In seconds from 1970-01-01T00:00:00Z; an earlier date is refused (13).
     pub revocation_date_seconds: u64,
 }
 
@@ -212,7 +219,7 @@ pub struct BasicOcspResponseAt {
     pub responses: Place,
     /// With their explicit tag \[1\].
     pub response_extensions: Place,
-    /// From 1970-01-01T00:00:00Z.
+    /// In seconds from 1970-01-01T00:00:00Z; an earlier date is refused (13).
     pub produced_at_seconds: u64,
 }
 
@@ -232,11 +239,11 @@ pub struct SingleResponseAt {
     pub next_update: Place,
     /// With their explicit tag \[1\].
     pub single_extensions: Place,
-    /// From 1970-01-01T00:00:00Z.
+    /// In seconds from 1970-01-01T00:00:00Z; an earlier date is refused (13).
     pub this_update_seconds: u64,
-    /// 0 where the field is absent.
+    /// In such seconds, 0 if the field is absent; a date before 1970 is refused (13).
     pub next_update_seconds: u64,
-    /// 0 of a certificate that is not revoked.
+    /// In such seconds, 0 if it is not revoked; a date before 1970 is refused (13).
     pub revocation_time_seconds: u64,
     /// 0 for good, 1 for revoked, 2 for unknown.
     pub cert_status_number: u64,
@@ -328,6 +335,7 @@ pub struct AttributeAt {
 #[allow(missing_docs)]
 extern "C" {
     pub fn der_abi_version() -> u32;
+    pub fn der_number_text(number: u32) -> *const core::ffi::c_char;
     // written by tools/bindings: calls
     pub fn der_certificate(octets: *const u8, len: usize, out: *mut CertificateAt, fault: *mut Fault) -> u32;
     pub fn der_extension(octets: *const u8, len: usize, out: *mut ExtensionAt, fault: *mut Fault) -> u32;
@@ -377,8 +385,8 @@ extern "C" {
         name_len: usize,
         octets: *const u8,
         len: usize,
-        room: *mut u8,
-        room_len: usize,
+        buffer: *mut u8,
+        buffer_len: usize,
         written: *mut usize,
         fault: *mut Fault,
     ) -> u32;

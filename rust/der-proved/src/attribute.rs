@@ -47,9 +47,7 @@ impl<'a> Name<'a> {
 
     /// Enters the next part, if there is one.
     fn enter(&mut self) {
-        let start = sys::Place::default();
-        // SAFETY: the slice is so many octets, which nothing writes while they are borrowed.
-        let part = unsafe { sys::der_next_encoding(self.parts.as_ptr(), self.parts.len(), &start) };
+        let part = sys::safe::next_encoding(self.parts, sys::Place::default());
         let (part, others) = self.parts.split_at(part.length as usize);
         self.attributes = contents(part);
         self.parts = others;
@@ -67,7 +65,7 @@ impl<'a> Iterator for Name<'a> {
             }
             self.enter();
         }
-        let answer = read(sys::der_attribute_type_and_value, self.attributes);
+        let answer = read(sys::safe::attribute_type_and_value, self.attributes);
         let Ok(place) = answer else {
             (self.parts, self.attributes) = (&[], &[]);
             return answer.err().map(Err);
@@ -78,11 +76,11 @@ impl<'a> Iterator for Name<'a> {
     }
 }
 
-/// An attribute with a set of values (RFC 5652 5.3, RFC 2986 4.1).
-#[derive(Clone, Copy, Debug)]
-pub struct Attribute<'a> {
-    octets: &'a [u8],
-    at: sys::AttributeAt,
+items! {
+    /// Goes over attributes with sets of values.
+    Attributes,
+    /// An attribute with a set of values (RFC 5652 5.3, RFC 2986 4.1).
+    Attribute, attribute, AttributeAt
 }
 
 impl<'a> Attribute<'a> {
@@ -95,20 +93,10 @@ impl<'a> Attribute<'a> {
     }
     // end of fields of Attribute
 
-    /// The whole attribute.
-    pub fn as_bytes(&self) -> &'a [u8] {
-        at(self.octets, self.at.whole)
-    }
-
     /// The contents octets of `type`: 2A 86 48 86 F7 0D 01 09 04 of messageDigest.
     pub fn identifier(&self) -> &'a [u8] {
         contents(self.type_())
     }
-}
-
-items! {
-    /// Goes over attributes with sets of values.
-    Attributes, Attribute, der_attribute
 }
 
 impl<'a> Attributes<'a> {

@@ -9,8 +9,8 @@ use der_proved_sys as sys;
 pub enum CanonicalError {
     /// No type has the name.
     UnknownName,
-    /// The room is too short; it should have so many octets.
-    ShortRoom(usize),
+    /// The buffer is too short; it should have so many octets.
+    ShortBuffer(usize),
     /// The octets are refused.
     Refused(Error),
 }
@@ -19,7 +19,7 @@ impl fmt::Display for CanonicalError {
     fn fmt(&self, f: &mut fmt::Formatter<'_>) -> fmt::Result {
         match self {
             CanonicalError::UnknownName => f.write_str("no type has the name"),
-            CanonicalError::ShortRoom(count) => write!(f, "the room is shorter than {count} octets"),
+            CanonicalError::ShortBuffer(count) => write!(f, "the buffer is shorter than {count} octets"),
             CanonicalError::Refused(error) => error.fmt(f),
         }
     }
@@ -28,34 +28,20 @@ impl fmt::Display for CanonicalError {
 impl core::error::Error for CanonicalError {}
 
 /// Reads octets as a value of the type with a name, all of them, and writes the value's one encoding to
-/// the front of a room. The names are those of `certview lines` and of `derview`: `docs/FORMAT.md` has
+/// the front of a buffer. The names are those of `certview lines` and of `derview`: `docs/FORMAT.md` has
 /// them.
 ///
 /// The encoding is the octets that were read, but of the types of sets that are read in another order
-/// than DER's, and written in order; so a room of as many octets serves.
+/// than DER's, and written in order; so a buffer of as many octets is long enough.
 ///
 /// # Errors
-/// Where no type has the name, the octets are refused, or the room is too short; then it is as it was.
-pub fn canonical<'r>(name: &str, octets: &[u8], room: &'r mut [u8]) -> Result<&'r [u8], CanonicalError> {
-    let (mut written, mut fault) = (0, sys::Fault::default());
-    // SAFETY: the slices are so many octets, which nothing else writes while they are borrowed, and the room overlaps
-    // none; `written` and `fault` are values of this function.
-    let answer = unsafe {
-        sys::der_canonical(
-            name.as_ptr(),
-            name.len(),
-            octets.as_ptr(),
-            octets.len(),
-            room.as_mut_ptr(),
-            room.len(),
-            &mut written,
-            &mut fault,
-        )
-    };
-    match answer {
-        0 => Ok(&room[..written]),
-        102 => Err(CanonicalError::UnknownName),
-        103 => Err(CanonicalError::ShortRoom(written)),
-        _ => Err(CanonicalError::Refused(Error::of(fault))),
+/// Where no type has the name, the octets are refused, or the buffer is too short; then it is as it was.
+pub fn canonical<'r>(name: &str, octets: &[u8], buffer: &'r mut [u8]) -> Result<&'r [u8], CanonicalError> {
+    let mut needed = 0;
+    match sys::safe::canonical(name, octets, buffer, &mut needed) {
+        Ok(written) => Ok(&buffer[..written]),
+        Err(fault) if fault.number == 102 => Err(CanonicalError::UnknownName),
+        Err(fault) if fault.number == 103 => Err(CanonicalError::ShortBuffer(needed)),
+        Err(fault) => Err(CanonicalError::Refused(Error::of(fault))),
     }
 }

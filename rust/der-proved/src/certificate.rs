@@ -1,26 +1,15 @@
 //! Certificates and their extensions.
 
-use crate::place::{at, fields, if_there, items, optional_fields, read};
-use crate::{contents, Error, Name};
-use der_proved_sys as sys;
+use crate::place::{fields, if_there, items, message, optional_fields};
+use crate::{contents, Name};
 
-/// A certificate (RFC 5280 4.1).
-#[derive(Clone, Copy, Debug)]
-pub struct Certificate<'a> {
-    octets: &'a [u8],
-    at: sys::CertificateAt,
+message! {
+    /// A certificate (RFC 5280 4.1).
+    #[derive(Debug)]
+    Certificate, certificate, CertificateAt
 }
 
 impl<'a> Certificate<'a> {
-    /// Reads octets as a certificate, all of them.
-    ///
-    /// # Errors
-    /// The first fault of the octets.
-    pub fn from_der(octets: &'a [u8]) -> Result<Certificate<'a>, Error> {
-        let at = read(sys::der_certificate, octets)?;
-        Ok(Certificate { octets, at })
-    }
-
     // written by tools/bindings: fields of Certificate
     fields! {
         /// `tbsCertificate`, what the signature covers.
@@ -82,11 +71,6 @@ impl<'a> Certificate<'a> {
     }
 }
 
-items! {
-    /// Goes over extensions.
-    Extensions, Extension, der_extension
-}
-
 impl<'a> Extensions<'a> {
     /// Those of a field with an explicit tag.
     pub(crate) fn after_tag(field: Option<&'a [u8]>) -> Extensions<'a> {
@@ -94,11 +78,11 @@ impl<'a> Extensions<'a> {
     }
 }
 
-/// An extension (RFC 5280 4.2).
-#[derive(Clone, Copy, Debug)]
-pub struct Extension<'a> {
-    octets: &'a [u8],
-    at: sys::ExtensionAt,
+items! {
+    /// Goes over extensions.
+    Extensions,
+    /// An extension (RFC 5280 4.2).
+    Extension, extension, ExtensionAt
 }
 
 impl<'a> Extension<'a> {
@@ -110,11 +94,6 @@ impl<'a> Extension<'a> {
         extn_value
     }
     // end of fields of Extension
-
-    /// The whole extension.
-    pub fn as_bytes(&self) -> &'a [u8] {
-        at(self.octets, self.at.whole)
-    }
 
     /// The contents octets of `extnID`: 55 1D 0F of keyUsage.
     pub fn identifier(&self) -> &'a [u8] {

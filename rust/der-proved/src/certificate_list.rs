@@ -1,26 +1,15 @@
 //! Lists of revoked certificates and their entries.
 
-use crate::place::{at, fields, if_there, items, optional_fields, read};
-use crate::{Error, Extensions};
-use der_proved_sys as sys;
+use crate::place::{fields, if_there, items, message, optional_fields};
+use crate::Extensions;
 
-/// A list of revoked certificates (RFC 5280 5.1).
-#[derive(Clone, Copy, Debug)]
-pub struct CertificateList<'a> {
-    octets: &'a [u8],
-    at: sys::CertificateListAt,
+message! {
+    /// A list of revoked certificates (RFC 5280 5.1).
+    #[derive(Debug)]
+    CertificateList, certificate_list, CertificateListAt
 }
 
 impl<'a> CertificateList<'a> {
-    /// Reads octets as a list of revoked certificates, all of them.
-    ///
-    /// # Errors
-    /// The first fault of the octets.
-    pub fn from_der(octets: &'a [u8]) -> Result<CertificateList<'a>, Error> {
-        let at = read(sys::der_certificate_list, octets)?;
-        Ok(CertificateList { octets, at })
-    }
-
     // written by tools/bindings: fields of CertificateList
     fields! {
         /// `tbsCertList`, what the signature covers.
@@ -64,14 +53,9 @@ impl<'a> CertificateList<'a> {
 
 items! {
     /// Goes over the entries of a list.
-    RevokedCertificates, RevokedCertificate, der_revoked_certificate
-}
-
-/// An entry of a list (RFC 5280 5.1.2.6).
-#[derive(Clone, Copy, Debug)]
-pub struct RevokedCertificate<'a> {
-    octets: &'a [u8],
-    at: sys::RevokedCertificateAt,
+    RevokedCertificates,
+    /// An entry of a list (RFC 5280 5.1.2.6).
+    RevokedCertificate, revoked_certificate, RevokedCertificateAt
 }
 
 impl<'a> RevokedCertificate<'a> {
@@ -86,11 +70,6 @@ impl<'a> RevokedCertificate<'a> {
         crl_entry_extensions
     }
     // end of fields of RevokedCertificate
-
-    /// The whole entry.
-    pub fn as_bytes(&self) -> &'a [u8] {
-        at(self.octets, self.at.whole)
-    }
 
     /// `revocationDate`, in seconds from 1970-01-01T00:00:00Z.
     pub fn revocation_date(&self) -> u64 {

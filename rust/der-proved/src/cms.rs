@@ -1,26 +1,15 @@
 //! Signed messages.
 
-use crate::place::{at, fields, if_there, items, optional_fields, read};
-use crate::{Attributes, Error};
-use der_proved_sys as sys;
+use crate::place::{fields, if_there, items, message, optional_fields};
+use crate::Attributes;
 
-/// A ContentInfo (RFC 5652 section 3).
-#[derive(Clone, Copy, Debug)]
-pub struct ContentInfo<'a> {
-    octets: &'a [u8],
-    at: sys::ContentInfoAt,
+message! {
+    /// A ContentInfo (RFC 5652 section 3).
+    #[derive(Debug)]
+    ContentInfo, content_info, ContentInfoAt
 }
 
 impl<'a> ContentInfo<'a> {
-    /// Reads octets as a ContentInfo, all of them.
-    ///
-    /// # Errors
-    /// The first fault of the octets.
-    pub fn from_der(octets: &'a [u8]) -> Result<ContentInfo<'a>, Error> {
-        let at = read(sys::der_content_info, octets)?;
-        Ok(ContentInfo { octets, at })
-    }
-
     // written by tools/bindings: fields of ContentInfo
     fields! {
         /// `contentType`, an OBJECT IDENTIFIER.
@@ -32,23 +21,13 @@ impl<'a> ContentInfo<'a> {
     // end of fields of ContentInfo
 }
 
-/// A SignedData (RFC 5652 5.1).
-#[derive(Clone, Copy, Debug)]
-pub struct SignedData<'a> {
-    octets: &'a [u8],
-    at: sys::SignedDataAt,
+message! {
+    /// A SignedData (RFC 5652 5.1).
+    #[derive(Debug)]
+    SignedData, signed_data, SignedDataAt
 }
 
 impl<'a> SignedData<'a> {
-    /// Reads octets as a SignedData, all of them.
-    ///
-    /// # Errors
-    /// The first fault of the octets.
-    pub fn from_der(octets: &'a [u8]) -> Result<SignedData<'a>, Error> {
-        let at = read(sys::der_signed_data, octets)?;
-        Ok(SignedData { octets, at })
-    }
-
     // written by tools/bindings: fields of SignedData
     fields! {
         /// `digestAlgorithms`, a SET OF AlgorithmIdentifier.
@@ -78,11 +57,11 @@ impl<'a> SignedData<'a> {
     }
 }
 
-/// A SignerInfo (RFC 5652 5.3).
-#[derive(Clone, Copy, Debug)]
-pub struct SignerInfo<'a> {
-    octets: &'a [u8],
-    at: sys::SignerInfoAt,
+items! {
+    /// Goes over the signers of a message.
+    SignerInfos,
+    /// A SignerInfo (RFC 5652 5.3).
+    SignerInfo, signer_info, SignerInfoAt
 }
 
 impl<'a> SignerInfo<'a> {
@@ -106,11 +85,6 @@ impl<'a> SignerInfo<'a> {
     }
     // end of fields of SignerInfo
 
-    /// The whole SignerInfo.
-    pub fn as_bytes(&self) -> &'a [u8] {
-        at(self.octets, self.at.whole)
-    }
-
     /// `version`, 0 to 5.
     pub fn version(&self) -> u64 {
         self.at.version_number
@@ -127,7 +101,3 @@ impl<'a> SignerInfo<'a> {
     }
 }
 
-items! {
-    /// Goes over the signers of a message.
-    SignerInfos, SignerInfo, der_signer_info
-}

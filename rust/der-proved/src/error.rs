@@ -26,35 +26,13 @@ impl Error {
     pub fn position(&self) -> Option<u32> {
         self.position
     }
-
-    fn words(&self) -> &'static str {
-        match self.number {
-            1 => "memory ran out",
-            2 => "the octets end too soon",
-            3 => "octets are left over",
-            4 => "another tag is expected",
-            5 => "the tag is not known",
-            6 => "the tag number is out of range or not in its shortest form",
-            7 => "the length is not one of the type",
-            8 => "the encoding is not that of DER",
-            9 => "the number of octets is out of range",
-            10 => "the length is too great or not in its shortest form",
-            11 => "the items of a set are not in order",
-            12 => "the octets are no UTF-8",
-            13 => "the contents stand for no value of the type",
-            14 => "the contents stand for no date or time",
-            15 => "the object identifier is malformed",
-            16 => "the length is indefinite",
-            _ => "refused",
-        }
-    }
 }
 
 impl fmt::Display for Error {
     fn fmt(&self, f: &mut fmt::Formatter<'_>) -> fmt::Result {
-        let (words, number) = (self.words(), self.number);
+        let (words, number) = (sys::safe::number_text(self.number), self.number);
         match self.position {
-            Some(position) => write!(f, "{words} ({number}), behind {position} octets"),
+            Some(position) => write!(f, "{words} ({number}), after {position} octets"),
             None => write!(f, "{words} ({number})"),
         }
     }

@@ -1,26 +1,14 @@
 //! Public and private keys.
 
-use crate::place::{fields, optional_fields, read};
-use crate::Error;
-use der_proved_sys as sys;
+use crate::place::{fields, message, optional_fields};
 
-/// A SubjectPublicKeyInfo (RFC 5280 4.1.2.7).
-#[derive(Clone, Copy, Debug)]
-pub struct SubjectPublicKeyInfo<'a> {
-    octets: &'a [u8],
-    at: sys::SubjectPublicKeyInfoAt,
+message! {
+    /// A SubjectPublicKeyInfo (RFC 5280 4.1.2.7).
+    #[derive(Debug)]
+    SubjectPublicKeyInfo, subject_public_key_info, SubjectPublicKeyInfoAt
 }
 
 impl<'a> SubjectPublicKeyInfo<'a> {
-    /// Reads octets as a SubjectPublicKeyInfo, all of them.
-    ///
-    /// # Errors
-    /// The first fault of the octets.
-    pub fn from_der(octets: &'a [u8]) -> Result<SubjectPublicKeyInfo<'a>, Error> {
-        let at = read(sys::der_subject_public_key_info, octets)?;
-        Ok(SubjectPublicKeyInfo { octets, at })
-    }
-
     // written by tools/bindings: fields of SubjectPublicKeyInfo
     fields! {
         /// `algorithm`, an AlgorithmIdentifier.
@@ -31,23 +19,12 @@ impl<'a> SubjectPublicKeyInfo<'a> {
     // end of fields of SubjectPublicKeyInfo
 }
 
-/// A PrivateKeyInfo, which is a OneAsymmetricKey (RFC 5958 section 2). `Debug` shows no octets of it.
-#[derive(Clone, Copy)]
-pub struct PrivateKeyInfo<'a> {
-    octets: &'a [u8],
-    at: sys::PrivateKeyInfoAt,
+message! {
+    /// A PrivateKeyInfo, which is a OneAsymmetricKey (RFC 5958 section 2). `Debug` shows no octets of it.
+    PrivateKeyInfo, private_key_info, PrivateKeyInfoAt
 }
 
 impl<'a> PrivateKeyInfo<'a> {
-    /// Reads octets as a PrivateKeyInfo, all of them. The key itself is not read.
-    ///
-    /// # Errors
-    /// The first fault of the octets.
-    pub fn from_der(octets: &'a [u8]) -> Result<PrivateKeyInfo<'a>, Error> {
-        let at = read(sys::der_private_key_info, octets)?;
-        Ok(PrivateKeyInfo { octets, at })
-    }
-
     // written by tools/bindings: fields of PrivateKeyInfo
     fields! {
         /// `privateKeyAlgorithm`, an AlgorithmIdentifier.

@@ -1,26 +1,15 @@
 //! Answers about the status of certificates.
 
-use crate::place::{at, fields, if_there, items, optional_fields, read};
-use crate::{Error, Extensions};
-use der_proved_sys as sys;
+use crate::place::{fields, if_there, items, message, optional_fields};
+use crate::Extensions;
 
-/// An OCSPResponse (RFC 6960 4.2.1).
-#[derive(Clone, Copy, Debug)]
-pub struct OcspResponse<'a> {
-    octets: &'a [u8],
-    at: sys::OcspResponseAt,
+message! {
+    /// An OCSPResponse (RFC 6960 4.2.1).
+    #[derive(Debug)]
+    OcspResponse, ocsp_response, OcspResponseAt
 }
 
 impl<'a> OcspResponse<'a> {
-    /// Reads octets as an OCSPResponse, all of them.
-    ///
-    /// # Errors
-    /// The first fault of the octets.
-    pub fn from_der(octets: &'a [u8]) -> Result<OcspResponse<'a>, Error> {
-        let at = read(sys::der_ocsp_response, octets)?;
-        Ok(OcspResponse { octets, at })
-    }
-
     /// `responseStatus`: 0 for successful, 1 to 3, 5 or 6.
     pub fn response_status(&self) -> i64 {
         self.at.response_status_number
@@ -37,23 +26,13 @@ impl<'a> OcspResponse<'a> {
     // end of fields of OCSPResponse
 }
 
-/// A BasicOCSPResponse (RFC 6960 4.2.1).
-#[derive(Clone, Copy, Debug)]
-pub struct BasicOcspResponse<'a> {
-    octets: &'a [u8],
-    at: sys::BasicOcspResponseAt,
+message! {
+    /// A BasicOCSPResponse (RFC 6960 4.2.1).
+    #[derive(Debug)]
+    BasicOcspResponse, basic_ocsp_response, BasicOcspResponseAt
 }
 
 impl<'a> BasicOcspResponse<'a> {
-    /// Reads octets as a BasicOCSPResponse, all of them.
-    ///
-    /// # Errors
-    /// The first fault of the octets.
-    pub fn from_der(octets: &'a [u8]) -> Result<BasicOcspResponse<'a>, Error> {
-        let at = read(sys::der_basic_ocsp_response, octets)?;
-        Ok(BasicOcspResponse { octets, at })
-    }
-
     // written by tools/bindings: fields of BasicOCSPResponse
     fields! {
         /// `tbsResponseData`, what the signature covers.
@@ -100,11 +79,11 @@ pub enum CertStatus {
     Unknown,
 }
 
-/// The answer about one certificate (RFC 6960 4.2.1).
-#[derive(Clone, Copy, Debug)]
-pub struct SingleResponse<'a> {
-    octets: &'a [u8],
-    at: sys::SingleResponseAt,
+items! {
+    /// Goes over the answers about single certificates.
+    SingleResponses,
+    /// The answer about one certificate (RFC 6960 4.2.1).
+    SingleResponse, single_response, SingleResponseAt
 }
 
 impl<'a> SingleResponse<'a> {
@@ -114,11 +93,6 @@ impl<'a> SingleResponse<'a> {
         cert_id
     }
     // end of fields of SingleResponse
-
-    /// The whole answer.
-    pub fn as_bytes(&self) -> &'a [u8] {
-        at(self.octets, self.at.whole)
-    }
 
     /// `certStatus`.
     pub fn cert_status(&self) -> CertStatus {
@@ -145,7 +119,3 @@ impl<'a> SingleResponse<'a> {
     }
 }
 
-items! {
-    /// Goes over the answers about single certificates.
-    SingleResponses, SingleResponse, der_single_response
-}

@@ -14,35 +14,23 @@ pub(crate) fn if_there(octets: &[u8], place: sys::Place) -> Option<&[u8]> {
     (place.length > 0).then(|| at(octets, place))
 }
 
-/// A call in C that reads octets.
-pub(crate) type Read<T> = unsafe extern "C" fn(*const u8, usize, *mut T, *mut sys::Fault) -> u32;
-
-/// What a call answers for these octets.
-pub(crate) fn read<T: Default>(call: Read<T>, octets: &[u8]) -> Result<T, Error> {
-    let (mut out, mut fault) = (T::default(), sys::Fault::default());
-    // SAFETY: the slice is so many octets, which nothing writes while they are borrowed; `out` and `fault` are values of
-    // this function, which overlap neither them nor each other.
-    match unsafe { call(octets.as_ptr(), octets.len(), &mut out, &mut fault) } {
-        0 => Ok(out),
-        _ => Err(Error::of(fault)),
-    }
+/// The result of a call for these octets.
+pub(crate) fn read<T>(call: fn(&[u8]) -> Result<T, sys::Fault>, octets: &[u8]) -> Result<T, Error> {
+    call(octets).map_err(Error::of)
 }
 
-/// The contents octets of an encoding that was read, as a field of a certificate: 05 of 02 01 05. Of
-/// other octets the answer is some of them.
+/// The contents octets of an encoding that was read, as a field of a certificate: 05 of 02 01 05. If
+/// the octets have no such encoding, some of them are returned.
 pub fn contents(encoding: &[u8]) -> &[u8] {
     let length = u32::try_from(encoding.len()).unwrap_or(u32::MAX);
-    let whole = sys::Place { offset: 0, length };
-    // SAFETY: as in `read`.
-    at(encoding, unsafe { sys::der_contents(encoding.as_ptr(), encoding.len(), &whole) })
+    at(encoding, sys::safe::contents(encoding, sys::Place { offset: 0, length }))
 }
 
 /// The octets that the signature of a certificate covers, of a list of revoked ones, of a request or of
 /// an answer about the status of certificates: the first field. Of other octets the answer is some of
 /// them.
 pub fn signed_octets(message: &[u8]) -> &[u8] {
-    // SAFETY: as in `read`.
-    at(message, unsafe { sys::der_signed_octets(message.as_ptr(), message.len()) })
+    at(message, sys::safe::signed_octets(message))
 }
 
 /// Methods that give fields as their octets.
@@ -59,9 +47,46 @@ macro_rules! optional_fields {
     };
 }
 
-/// An iterator over what stands one behind another, each read by a call in C.
+/// A type that is read from all octets of a message.
+macro_rules! message {
+    ($(#[$doc:meta])* $name:ident, $call:ident, $at:ident) => {
+        $(#[$doc])*
+        #[derive(Clone, Copy)]
+        pub struct $name<'a> {
+            octets: &'a [u8],
+            at: der_proved_sys::$at,
+        }
+
+        impl<'a> $name<'a> {
+            #[doc = concat!("Reads all octets as a `", stringify!($name), "`.")]
+            ///
+            /// # Errors
+            /// The first fault of the octets.
+            pub fn from_der(octets: &'a [u8]) -> Result<$name<'a>, crate::Error> {
+                let at = crate::place::read(der_proved_sys::safe::$call, octets)?;
+                Ok($name { octets, at })
+            }
+        }
+    };
+}
+
+/// A type of the items of a list, and an iterator over them, each read by a call in C.
 macro_rules! items {
-    ($(#[$doc:meta])* $items:ident, $item:ident, $call:ident) => {
+    ($(#[$doc:meta])* $items:ident, $(#[$of:meta])* $item:ident, $call:ident, $at:ident) => {
+        $(#[$of])*
+        #[derive(Clone, Copy, Debug)]
+        pub struct $item<'a> {
+            octets: &'a [u8],
+            at: der_proved_sys::$at,
+        }
+
+        impl<'a> $item<'a> {
+            /// All octets of the item.
+            pub fn as_bytes(&self) -> &'a [u8] {
+                crate::place::at(self.octets, self.at.whole)
+            }
+        }
+
         $(#[$doc])*
         #[derive(Clone, Debug)]
         pub struct $items<'a> {
@@ -83,7 +108,7 @@ macro_rules! items {
                 if self.left.is_empty() {
                     return None;
                 }
-                let answer = crate::place::read(der_proved_sys::$call, self.left);
+                let answer = crate::place::read(der_proved_sys::safe::$call, self.left);
                 let Ok(place) = answer else {
                     self.left = &[];
                     return answer.err().map(Err);
@@ -93,7 +118,9 @@ macro_rules! items {
                 Some(Ok($item { octets, at: place }))
             }
         }
+
+        impl core::iter::FusedIterator for $items<'_> {}
     };
 }
 
-pub(crate) use {fields, items, optional_fields};
+pub(crate) use {fields, items, message, optional_fields};

@@ -1,26 +1,15 @@
 //! Requests for certificates.
 
-use crate::place::{fields, if_there, read};
-use crate::{Attributes, Error, Name};
-use der_proved_sys as sys;
+use crate::place::{fields, if_there, message};
+use crate::{Attributes, Name};
 
-/// A CertificationRequest (RFC 2986 4.2).
-#[derive(Clone, Copy, Debug)]
-pub struct CertificationRequest<'a> {
-    octets: &'a [u8],
-    at: sys::CertificationRequestAt,
+message! {
+    /// A CertificationRequest (RFC 2986 4.2).
+    #[derive(Debug)]
+    CertificationRequest, certification_request, CertificationRequestAt
 }
 
 impl<'a> CertificationRequest<'a> {
-    /// Reads octets as a CertificationRequest, all of them.
-    ///
-    /// # Errors
-    /// The first fault of the octets.
-    pub fn from_der(octets: &'a [u8]) -> Result<CertificationRequest<'a>, Error> {
-        let at = read(sys::der_certification_request, octets)?;
-        Ok(CertificationRequest { octets, at })
-    }
-
     // written by tools/bindings: fields of CertificationRequest
     fields! {
         /// `certificationRequestInfo`, what the signature covers.

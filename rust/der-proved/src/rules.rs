@@ -139,7 +139,7 @@ impl<R: Copy> Iterator for BrokenRules<R> {
 /// # Errors
 /// The first fault of the octets.
 pub fn check_rfc5280(octets: &[u8]) -> Result<BrokenRules<CertificateRule>, Error> {
-    let bits = read(sys::der_check_rfc5280, octets)?;
+    let bits = read(sys::safe::check_rfc5280, octets)?;
     Ok(BrokenRules { bits, left: CertificateRule::ALL })
 }
 
@@ -148,6 +148,6 @@ pub fn check_rfc5280(octets: &[u8]) -> Result<BrokenRules<CertificateRule>, Erro
 /// # Errors
 /// The first fault of the octets.
 pub fn check_rfc5280_list(octets: &[u8]) -> Result<BrokenRules<ListRule>, Error> {
-    let bits = read(sys::der_check_rfc5280_list, octets)?;
+    let bits = read(sys::safe::check_rfc5280_list, octets)?;
     Ok(BrokenRules { bits, left: ListRule::ALL })
 }

@@ -28,8 +28,8 @@ fn a_canonical_encoding_is_written() {
 #[test]
 fn nothing_is_written_of_what_is_refused() {
     let mut room = [0x5a; 2];
-    assert_eq!(canonical("u16", &[2, 1, 5], &mut room), Err(CanonicalError::ShortRoom(3)));
-    assert_eq!(canonical("u16", &[2, 1, 5], &mut []), Err(CanonicalError::ShortRoom(3)));
+    assert_eq!(canonical("u16", &[2, 1, 5], &mut room), Err(CanonicalError::ShortBuffer(3)));
+    assert_eq!(canonical("u16", &[2, 1, 5], &mut []), Err(CanonicalError::ShortBuffer(3)));
     assert_eq!(canonical("u17", &[2, 1, 5], &mut room), Err(CanonicalError::UnknownName));
     assert_eq!(canonical("", &[], &mut room), Err(CanonicalError::UnknownName));
     match canonical("u16", &[2, 0], &mut room) {

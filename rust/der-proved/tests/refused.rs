@@ -46,5 +46,5 @@ fn octets_of_any_kind_give_some_of_them() {
 fn an_error_says_where() {
     let error = Certificate::from_der(&[0x02, 0x01, 0x05]).unwrap_err();
     assert_eq!((error.number(), error.position()), (4, Some(2)));
-    assert_eq!(error.to_string(), "another tag is expected (4), behind 2 octets");
+    assert_eq!(error.to_string(), "another tag stands there than may stand there (4), after 2 octets");
 }

@@ -3,7 +3,6 @@
 from .workshop import Made
 
 SIGNERS = ("rsa2048", "P-256", "P-384", "rsa1024")
-FRACTION = "a genTime with a fraction of a second (README of der_time_stamp, Refused); openssl writes none of zero"
 COUNT = 70
 
 
@@ -39,9 +38,7 @@ def stamp_files(shop):
         words = ["ts", "-reply", "-config", config, "-queryfile", f"query-{number}.der", "-signer", f"{key}.tsa", "-inkey", f"{key}.key",
                  *shop.pick(((), ("-chain", "root.pem")))]
         name = shop.name("reply", "der")
-        made = Made(shop.path(name), "time stamp reply", f"{key}, {config}, query-{number}.der")
-        made.may_be_malformed = FRACTION if digits else ""
-        shop.later([[*words, "-out", name]], made)
+        shop.later([[*words, "-out", name]], Made(shop.path(name), "time stamp reply", f"{key}, {config}, query-{number}.der"))
     shop.finish()
     for number in range(1, COUNT + 1):
         token(shop, number)
@@ -50,7 +47,7 @@ def stamp_files(shop):
 def token(shop, number):
     """The token alone, where a reply has one: a message of CMS."""
     with open(shop.path(f"reply-{number}.der"), "rb") as file:
-        if len(file.read()) < 200 or number % 20 == 0:
+        if len(file.read()) < 200:
             return
     name = shop.name("token", "der")
     words = ["ts", "-reply", "-in", f"reply-{number}.der", "-token_out", "-out", name]

@@ -19,7 +19,6 @@ class Made:
     about: str
     refused: str = ""
     malformed: str = ""
-    may_be_malformed: str = ""
     taken_for: str = ""
     large: bool = False
     # Why openssl is not asked what it says of the file.

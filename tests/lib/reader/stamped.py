@@ -47,7 +47,7 @@ def stamp_rows(encoding):
     add_imprint(rows, fields.take(0x30))
     number, moment = fields.take(0x02), fields.take(0x18)
     rows.add(number, "serial number", texts.serial(values.integer(number)))
-    rows.add(moment, "time", values.generalized_time(moment))
+    rows.add(moment, "time", values.fractional_time(moment))
     accuracy = fields.option(0x30)
     if accuracy:
         rows.add(accuracy, "accuracy", accuracy_text(accuracy))

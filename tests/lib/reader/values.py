@@ -94,6 +94,13 @@ def generalized_time(encoding):
     return moment(encoding, int(found[1]), found[2])
 
 
+def fractional_time(encoding):
+    """X.690 11.7: a GeneralizedTime that may have a fraction of a second."""
+    found = re.fullmatch(rb"(\d{4})(\d{10})(\.\d*[1-9])?Z", encoding.contents)
+    refuse_unless(found, "another form of a GeneralizedTime")
+    return moment(encoding, int(found[1]), found[2]).replace(" UTC", (found[3] or b"").decode() + " UTC")
+
+
 def utc_time(encoding):
     """RFC 5280 section 4.1.2.5.1."""
     found = re.fullmatch(rb"(\d{2})(\d{10})Z", encoding.contents)

@@ -8,25 +8,24 @@ from dataclasses import replace
 from ..errors import AsnError, Place
 from ..model import Field, Presence, Resolved
 from ..notes import Notes
-from ..scope import Env, check_names
+from ..scope import check_names
 from ..spelling import camel, field, numbered, variant
-from ..syntax import ChoiceType, Component, ComponentsOf, FieldsType
-from ..tagging import alternatives, automatic, check_all, check_sequence, has_automatic_tags, in_order_of_tags
+from ..syntax import ChoiceType, Component, FieldsType
+from ..tagging import alternatives, check_all, check_sequence, in_order_of_tags
 from . import types
-from .classes import base_of
 from .context import Context
-from .lacking import is_left_out, kept_alternatives
+from .empty_lists import optional_list
+from .included import components_of
+from .kept import OMIT, is_left_out
+from .lacking import may_be_absent
 from .recursion import cut_at
 from .subsets import unconstrained
 from .defaults import default_of, marker_of
 
-Placed = tuple[Component, Env]
-DEEPEST = 40  # types whose components are taken, one in another
-
 
 def fields_of(context: Context, type_: FieldsType) -> tuple[tuple[Field, ...], tuple[Field, ...]]:
     """The fields, distinguished by their tags: in the order of their encodings, and as they are written."""
-    placed = components_of(context, type_)
+    placed = components_of(context.state.library, context.env, type_)
     check_names([(part.place, part.name) for part, _ in placed], "name")
     names = spelled(context, [part for part, _ in placed], field)
     placed = [one for one in placed if not may_be_absent(one[0]) or not is_left_out(context.within(one[1]), one[0])]
@@ -44,7 +43,9 @@ def alternatives_of(context: Context, type_: ChoiceType) -> tuple[Field, ...]:
     parts = alternatives(context.env, type_)
     check_names([(part.place, part.name) for part in parts], "name")
     names = spelled(context, parts, variant)
-    parts = kept_alternatives(context, type_, parts)
+    parts = [part for part in parts if not is_left_out(context, part)]
+    if not parts:
+        raise AsnError(type_.place, "the layer has no type for any alternative of this CHOICE", OMIT)
     fields = tuple(one_field(context, part, names[part.name]) for part in parts)
     check_fields(fields)
     check_all(fields, "X.680 29.3")
@@ -57,41 +58,8 @@ def spelled(context: Context, parts: list[Component], spell: Callable[[str], str
     for part in parts:
         if names[part.name] != spell(part.name) and not Notes(part.annotations).has("name"):
             said = f"'{part.name}' is '{names[part.name]}', as another is '{spell(part.name)}'"
-            context.say(part.place, said, f"{said}.")
+            context.say(part.place, said)
     return names
-
-
-def may_be_absent(part: Component) -> bool:
-    """Whether a component is OPTIONAL or has a DEFAULT."""
-    return part.optional or part.default is not None
-
-
-def components_of(context: Context, type_: FieldsType, by: tuple[FieldsType, ...] = ()) -> list[Placed]:
-    """The components with those of COMPONENTS OF in their place, and automatic tags (25.5, 25.7); `by` are the types that take
-    this one's."""
-    own = [part for part in type_.components if isinstance(part, Component)]
-    is_automatic = has_automatic_tags(context.env, own)
-    placed: list[Placed] = []
-    for part in type_.components:
-        if isinstance(part, Component):
-            placed.append((part, context.env))
-        else:
-            placed += included(context, part, (*by, type_))
-    if is_automatic:
-        tagged = automatic([part for part, _ in placed])
-        placed = [(part, env) for part, (_, env) in zip(tagged, placed)]
-    return placed
-
-
-def included(context: Context, part: ComponentsOf, by: tuple[FieldsType, ...]) -> list[Placed]:
-    """The components of a type whose components are taken (25.5), but for its additions."""
-    env, base = base_of(context.state.library, context.env, part.type)
-    word = "SET" if by[-1].is_set else "SEQUENCE"
-    if not isinstance(base, FieldsType) or base.is_instance or base.is_set != by[-1].is_set or base is by[-1]:
-        raise AsnError(part.place, f"COMPONENTS OF stands before what is no other {word}", "write the components out")
-    if any(base is one for one in by) or len(by) == DEEPEST:
-        raise AsnError(part.place, f"this {word} has its own components by COMPONENTS OF, or those of too many", "write them out")
-    return [one for one in components_of(context.within(env), base, by) if not one[0].is_addition]
 
 
 def one_field(context: Context, part: Component, rust: str) -> Field:
@@ -104,6 +72,9 @@ def one_field(context: Context, part: Component, rust: str) -> Field:
     if part.is_later:
         remark_on_addition(inner, part)
     notes.check_used(f"'{part.name}'")
+    listed = optional_list(inner, part, found)
+    if listed is not None:
+        return Field(part.place, part.name, rust, listed, Presence.OPTIONAL, None, part.text, part, context.env)
     if part.default is None:
         presence = Presence.OPTIONAL if part.optional else Presence.ALWAYS
         return Field(part.place, part.name, rust, found, presence, None, part.text, part, context.env)
@@ -124,7 +95,7 @@ def type_of(context: Context, part: Component) -> Resolved:
 def remark_on_addition(context: Context, part: Component) -> None:
     """An addition that is always there in values of this version is read as OPTIONAL: those of older versions have it not."""
     said = f"'{part.name}' may be absent, as in values of an older version, though it is neither OPTIONAL nor DEFAULT"
-    context.say(part.place, said, f"{said[0].upper()}{said[1:]}.")
+    context.say(part.place, said)
 
 
 def check_fields(fields: tuple[Field, ...]) -> None:

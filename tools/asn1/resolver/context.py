@@ -96,7 +96,7 @@ class Context:
         """Says what is not checked here, in the documentation too."""
         self.say(place, text, f"Not checked: {text}.")
 
-    def say(self, place: Place, text: str, sentence: str) -> None:
-        """Says what a user has to know of a type: in a remark, and in a sentence of the documentation."""
-        self.remarks.append(sentence)
+    def say(self, place: Place, text: str, sentence: str = "") -> None:
+        """Says what a user has to know of a type: in a remark, and in a sentence of the documentation, which has other words if given."""
+        self.remarks.append(sentence or f"{text[0].upper()}{text[1:]}.")
         self.state.remarks.append(Remark(place, text))

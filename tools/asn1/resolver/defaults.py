@@ -47,6 +47,7 @@ from ..syntax import (
 )
 from ..values import arcs_of, assigned_value, contents
 from .context import Context
+from .lacking import readable
 
 INSTEAD = "write OPTIONAL, and let an absent value stand for the default; an encoded default is then not refused"
 INTEGERS = frozenset([Whole.MACHINE_INTEGER, Whole.INTEGER, Whole.NATURAL])
@@ -113,7 +114,7 @@ def chosen_alone(type_: Resolved, value: Value) -> tuple[Resolved, Value]:
         origin = found.definition.origin
         found = found.definition.type
         if origin is not None and isinstance(origin.type, ChoiceType):
-            (only,) = origin.type.alternatives
+            (only,) = readable(origin.library, origin.env, origin.type)
             if not isinstance(value, ChosenValue) or value.name != only.name:
                 raise AsnError(value.place, "this value names no alternative", f"write '{only.name} : value'")
             value = value.value

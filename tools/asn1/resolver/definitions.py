@@ -37,15 +37,18 @@ from ..syntax import (
     Type,
     TypeAssignment,
 )
-from ..tagging import alternatives
+from ..tagging import OrderOfValue, alternatives
 from ..values import enumeration_of
 from . import types
 from .additions import check_call, has_additions, refuse_skip
 from .classes import bind, has_type_parameter
-from .components import alternatives_of, check_spelling, fields_of
+from .components import alternatives_of, check_spelling, fields_of, type_of
 from .context import DEEPEST, Context, State, too_deep
+from .kept import is_kept, is_left_out, kept_set
+from .lacking import readable
 from .recursion import find_cuts
 from .signatures import signature
+from .sizes import items_allowed
 
 Constraints = tuple[Placed, ...]
 
@@ -85,7 +88,7 @@ def assigned(state: State, env: Env, assignment: TypeAssignment) -> Definition:
     context = Context(state, env, env.scope.module.name, rust, notes, [])
     said = names.said(assignment.name)
     if said is not None:
-        context.say(assignment.place, said, f"{said}.")
+        context.say(assignment.place, said)
     found = define(context, assignment.name, assignment.text, assignment.type)
     if not isinstance(found, Alias):
         found.by_hand = tuple((notes.argument("rust") or "").split("::")) if notes.has("rust") else ()
@@ -105,8 +108,8 @@ def check_instance(state: State, env: Env, assignment: TypeAssignment, place: Pl
     if signature(assigned(scratch, env, assignment)) != signature(known):
         raise AsnError(
             place,
-            f"this instance of '{assignment.name}' has other types than one before it",
-            "write its type out here",
+            f"this instance of '{assignment.name}' has other types or constraints than one before it",
+            "write its type out here; or, where a constraint alone differs, '-- @unchecked' after that type",
         )
 
 
@@ -151,14 +154,18 @@ def defined(context: Context, name: str, text: str, type_: Type, outer: Constrai
     tags, envs, base, constraints, env = peel(context, type_)
     inner = context.within(env)
     found_tags = [types.tag_of(context.within(env), tag) for tag, env in zip(tags, envs)]
-    if not isinstance(base, (FieldsType, ChoiceType, ListType, EnumeratedType)):
+    if not isinstance(base, (FieldsType, ChoiceType, ListType, EnumeratedType)) or is_kept(inner, base):
         return alias(context, name, text, type_, outer)
-    if isinstance(base, ChoiceType) and len(base.alternatives) == 1 and not tags:
+    if isinstance(base, ChoiceType) and len(readable(inner.state.library, env, base)) == 1 and not tags:
         return choice_of_one(inner, name, text, base)
     if any(is_explicit for _, is_explicit in found_tags):
         return behind_tags(inner, name, text, found_tags, base, constraints)
     tag = found_tags[0][0] if found_tags else None
-    return plain(inner, name, text, base, tag, (*constraints, *outer))
+    try:
+        return plain(inner, name, text, base, tag, (*constraints, *outer))
+    except OrderOfValue as found:
+        type_of_set = kept_set(inner, base.place, found.name, [tag for tag, _ in found_tags])
+        return Alias(base.place, context.home, name, context.inner, text, context.remarks, type=type_of_set)
 
 
 def plain(context: Context, name: str, text: str, base: Type, tag: Tag | None, constraints: Constraints) -> Definition:
@@ -174,10 +181,10 @@ def plain(context: Context, name: str, text: str, base: Type, tag: Tag | None, c
         remark_on_extensions(context, base)
         return Choice(*about, alternatives=alternatives_of(context, base))
     if isinstance(base, ListType):
-        never_empty = types.is_never_empty(context, constraints)
+        never_empty, allowed = items_allowed(context, base, constraints)
         item = types.resolve_type(context.item(), base.item)
-        any_order = types.is_any_order(context, base)
-        return List(*about, item=item, is_set=base.is_set, is_never_empty=never_empty, is_any_order=any_order, tag=tag)
+        kind = {"is_set": base.is_set, "is_any_order": types.is_any_order(context, base)}
+        return List(*about, item=item, **kind, is_never_empty=never_empty, allowed=allowed, tag=tag)
     assert isinstance(base, EnumeratedType)
     why = "a number that has no name is the whole value; INTEGER in its place has all numbers"
     refuse_skip(base.marker_notes, "an ENUMERATED", why)
@@ -226,10 +233,10 @@ def behind_tags(
 def choice_of_one(context: Context, name: str, text: str, base: ChoiceType) -> Alias:
     """A CHOICE of one alternative has its octets and no others (X.690 8.13): a second name of it."""
     remark_on_extensions(context, base)
-    (only,) = alternatives(context.env, base)
+    (only,) = [part for part in alternatives(context.env, base) if not is_left_out(context, part)]
     notes = Notes(only.annotations)
     inner = replace(context, inner=context.inner + camel(only.name), notes=notes)
-    found = types.resolve_type(inner, only.type)
+    found = type_of(inner, only)
     notes.check_used(f"'{only.name}'")
     return Alias(base.place, context.home, name, context.inner, text, context.remarks, type=found)
 

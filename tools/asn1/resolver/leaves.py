@@ -21,7 +21,8 @@ from ..syntax import (
 )
 from ..values import numbers_of
 from .context import Context
-from .lacking import LACKING, refuse
+from .kept import refuse
+from .lacking import LACKING
 from .subsets import narrowed
 
 # An object identifier has 39 contents octets, as those of the crate `der`, where no annotation says another number.

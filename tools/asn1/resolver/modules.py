@@ -63,7 +63,7 @@ def is_lacking(state: State, scope: Scope, assignment: TypeAssignment) -> bool:
     with within_limits(assignment.place):
         found = lacking(state.library, Env(scope), assignment.type)
     if found is not None:
-        state.remarks.append(Remark(assignment.place, f"'{assignment.name}' is not written: the layer has no {found.value}"))
+        state.remarks.append(Remark(assignment.place, f"'{assignment.name}' is not written: the layer has no {found.what}"))
     return found is not None
 
 

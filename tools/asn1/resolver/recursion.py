@@ -1,6 +1,7 @@
 """Types that reach themselves: the components and the items at which they are cut, by the tree of the modules alone.
 
-What is cut is kept as contents octets behind its tag, and not read. So it has one tag, and is constructed.
+What is cut is kept as contents octets behind its tag, and not read. So it has one tag, and is constructed. A SET or a SET OF with its
+own tag is kept as items of any type; it is cut where nothing else can be.
 """
 
 from __future__ import annotations
@@ -42,7 +43,8 @@ class Way:
     source: Key
     target: Key
     place: Place  # of the component that it stands in, of the item, or of the name
-    can_be_cut: bool
+    can_be_cut: bool  # behind a tag, or behind that of a SEQUENCE
+    is_in_set: bool  # or else, behind that of a SET
     is_back: bool  # to a type of before, or to the same
 
     @property
@@ -59,12 +61,12 @@ def find_cuts(library: Library, scope: Scope, assignment: TypeAssignment) -> Non
     """Finds where types are cut that reach themselves, of those that a type has within it and itself.
 
     These are the ways back to a type of before, or to the same. Where none of them can be cut, as before a CHOICE with no
-    tag, it is the first way around that can be.
+    tag, it is the first way around that can be; where none can, the ways are cut that stand in a SET with its own tag.
     """
     ways = ways_from(library, (scope, assignment))
     while True:
-        left = [way for way in ways if way.key not in library.cuts]
-        around = [way for way in ways_around(left) if way.can_be_cut]
+        ways_left = ways_around([way for way in ways if way.key not in library.cuts])
+        around = [way for way in ways_left if way.can_be_cut] or [way for way in ways_left if way.is_in_set]
         if not around:
             return
         back = [way for way in around if way.is_back]
@@ -96,25 +98,26 @@ def ways_from(library: Library, start: Found) -> list[Way]:
         if order_of(found) in library.searched:
             continue
         library.searched.add(order_of(found))
-        for within, name, other in names_of(library, found):
+        for within, in_set, name, other in names_of(library, found):
             waiting.append(other)
             keys = [(scope.module.name, assignment.name) for scope, assignment in (found, other)]
-            place = within.place if within else name.place
-            way = Way(keys[0], keys[1], place, within is not None, order_of(other) <= order_of(found))
+            place = (within or in_set or name).place
+            way = Way(keys[0], keys[1], place, within is not None, in_set is not None, order_of(other) <= order_of(found))
             ways.append((order_of(found), way))
     return [way for _, way in sorted(ways, key=lambda one: (one[0], one[1].place))]
 
 
-def names_of(library: Library, found: Found) -> Iterator[tuple[Within | None, ReferenceType, Found]]:
-    """The names of types in an assignment, each with the innermost component or item around it that can be cut, and with what
-    it stands for; those of parameters stand for none."""
+def names_of(library: Library, found: Found) -> Iterator[tuple[Within | None, Within | None, ReferenceType, Found]]:
+    """The names of types in an assignment, each with the innermost component or item around it that can be cut behind a tag, the
+    innermost that is a SET, and what it stands for; those of parameters stand for none."""
     scope, assignment = found
     parameters = [parameter.name for parameter in assignment.parameters]
     for around, name in names_in(Env(scope), assignment.type, ()):
         other = None if name.module is None and name.name in parameters else assigned(library, scope, name)
         if other is not None:
             can_be_cut = (one for one, is_tagged in reversed(around) if is_tagged or is_kept_behind_a_tag(library, scope, one))
-            yield next(can_be_cut, None), name, other
+            sets = (one for one, _ in reversed(around) if is_set(library, scope, one))
+            yield next(can_be_cut, None), next(sets, None), name, other
 
 
 def names_in(env: Env, tree: object, around: tuple[Around, ...]) -> Iterator[tuple[tuple[Around, ...], ReferenceType]]:
@@ -154,12 +157,23 @@ def assigned(library: Library, scope: Scope, name: ReferenceType) -> tuple[Scope
 
 def is_kept_behind_a_tag(library: Library, scope: Scope, within: Within) -> bool:
     """Whether what reaches another type has one tag, so that its contents octets can be kept behind it."""
+    base = base_within(library, scope, within)
+    return isinstance(base, TaggedType) or (isinstance(base, (FieldsType, ListType)) and not base.is_set)
+
+
+def is_set(library: Library, scope: Scope, within: Within) -> bool:
+    """Whether what reaches another type is a SET or a SET OF with its own tag."""
+    base = base_within(library, scope, within)
+    return isinstance(base, (FieldsType, ListType)) and base.is_set
+
+
+def base_within(library: Library, scope: Scope, within: Within) -> Type | None:
+    """The outermost tag of a component or an item, or its type where it has none; None where a name stands for no type."""
     type_ = within.type if isinstance(within, Component) else within
     try:
-        base = first_tagged(library, Env(scope), type_)[1]
+        return first_tagged(library, Env(scope), type_)[1]
     except AsnError:
-        return False
-    return isinstance(base, TaggedType) or (isinstance(base, (FieldsType, ListType)) and not base.is_set)
+        return None
 
 
 def first_tagged(library: Library, env: Env, type_: Type) -> tuple[Env, Type]:

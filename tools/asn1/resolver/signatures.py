@@ -55,9 +55,9 @@ def default_signature(value: DefaultValue | None) -> str:
 def type_signature(type_: Resolved) -> str:
     """A type within another."""
     if isinstance(type_, Leaf):
-        return f"{type_.whole.name} {type_.is_owned} {type_.width} {type_.octets}"
+        return f"{type_.whole.name} {type_.is_owned} {type_.width} {type_.octets} {type_.allowed}"
     if isinstance(type_, Listed):
-        return f"{type_.is_set} {type_.is_never_empty} {type_.is_any_order} OF {type_signature(type_.item)}"
+        return f"{type_.is_set} {type_.is_never_empty} {type_.is_any_order} {type_.allowed} OF {type_signature(type_.item)}"
     if isinstance(type_, Tagged):
         return f"{type_.tag} {type_.is_explicit} {type_signature(type_.of)}"
     return f"{type_.definition.module}.{type_.definition.rust}"

@@ -4,7 +4,7 @@ from __future__ import annotations
 
 from dataclasses import replace
 
-from ..bounds import Bounds, Placed, placed, size_of
+from ..bounds import Placed, placed
 from ..errors import AsnError
 from ..model import Alias, Definition, Leaf, Listed, Resolved, Tag, Tagged, Use, Whole
 from ..syntax import (
@@ -30,8 +30,10 @@ from ..values import number_of
 from . import definitions, leaves
 from .classes import base_of, bind, has_type_parameter, is_parameter, is_untagged_choice, meant
 from .context import Context
-from .lacking import kept, replaced
+from .kept import ANY_SET, is_kept, kept, kept_sequence
+from .lacking import replaced
 from .recursion import cut_at, first_tagged
+from .sizes import items_allowed
 from .subsets import narrowed_name
 
 Constraints = tuple[Placed, ...]
@@ -49,6 +51,9 @@ def resolve_type(context: Context, type_: Type, constraints: Constraints = ()) -
         env, inner = meant(context.state.library, context.env, type_)
         with context.state.within(type_.place):
             return resolve_type(context.within(env), inner, placed(context.env, constraints))
+    kept_octets = kept_sequence(context, type_)
+    if kept_octets is not None:
+        return kept_octets
     if isinstance(type_, ListType):
         return listed(context, type_, constraints)
     if isinstance(type_, SimpleType):
@@ -85,7 +90,7 @@ def written_out(context: Context, type_: Type, constraints: Constraints) -> Defi
 def tagged(context: Context, type_: TaggedType, constraints: Constraints) -> Tagged:
     """A tag before a type."""
     tag, is_explicit = tag_of(context, type_)
-    lacks = None if is_explicit else replaced(context.state.library, context.env, type_.type)
+    lacks = None if is_explicit or has_tag(context, type_.type) else replaced(context.state.library, context.env, type_.type)
     if lacks is not None:
         return Tagged(tag, is_explicit, kept(context, type_.place, lacks))
     inner = resolve_type(context, type_.type if is_explicit else with_no_tag(type_.type), constraints)
@@ -96,6 +101,17 @@ def tagged(context: Context, type_: TaggedType, constraints: Constraints) -> Tag
             "leave it out, or write OCTET STRING, whose contents octets are any",
         )
     return Tagged(tag, is_explicit, inner)
+
+
+def has_tag(context: Context, type_: Type) -> bool:
+    """Whether a tag is the first of a type, with no name of a type before it."""
+    env = context.env
+    while isinstance(type_, (ConstrainedType, FieldOfClass, SelectionType)):
+        if isinstance(type_, ConstrainedType):
+            type_ = type_.type
+        else:
+            env, type_ = meant(context.state.library, env, type_)
+    return isinstance(type_, TaggedType)
 
 
 def with_no_tag(type_: Type) -> Type:
@@ -131,28 +147,13 @@ def tag_of(context: Context, type_: TaggedType) -> tuple[Tag, bool]:
 def listed(context: Context, type_: ListType, constraints: Constraints) -> Listed:
     """SEQUENCE OF or SET OF."""
     item = resolve_type(context.item(), type_.item)
-    return Listed(item, type_.is_set, is_never_empty(context, constraints), is_any_order(context, type_))
+    is_never_empty, allowed = items_allowed(context, type_, constraints)
+    return Listed(item, type_.is_set, is_never_empty, is_any_order(context, type_), allowed)
 
 
 def is_any_order(context: Context, type_: ListType) -> bool:
     """Whether a SET OF stands as BER writes it, with its items in any order."""
     return type_.is_set and context.notes.has("any_order")
-
-
-def is_never_empty(context: Context, constraints: Constraints) -> bool:
-    """Whether SIZE (1..MAX) stands before OF; other sizes are not checked."""
-    never_empty = False
-    for constraint in constraints:
-        size = size_of(context.state.library, context.env, constraint)
-        if size is None:
-            leaves.remark_on(context, constraint)
-            continue
-        is_one = size.low is not None and size.low >= 1
-        never_empty |= is_one
-        if size not in (Bounds(1, None), Bounds(0, None)):
-            checked = "checked as (1..MAX)" if is_one else "not checked"
-            context.remark(constraint.place, f"SIZE {leaves.bounds_text(size)} is {checked}")
-    return never_empty
 
 
 def reference(context: Context, type_: ReferenceType, constraints: Constraints) -> Resolved:
@@ -193,8 +194,9 @@ def constrained(context: Context, found: Use, constraints: Constraints) -> Resol
 
 
 def is_written_out(context: Context, type_: Type) -> bool:
-    """Whether a type with parameters has parts, so that each of its instances is a type of its own."""
-    return isinstance(definitions.peel(context, type_)[2], (FieldsType, ChoiceType, ListType, EnumeratedType))
+    """Whether a type with parameters has parts that are read, so that each of its instances is a type of its own."""
+    _, _, base, _, env = definitions.peel(context, type_)
+    return isinstance(base, (FieldsType, ChoiceType, ListType, EnumeratedType)) and not is_kept(context.within(env), base)
 
 
 def unread(context: Context, type_: ReferenceType) -> Leaf:
@@ -205,10 +207,14 @@ def unread(context: Context, type_: ReferenceType) -> Leaf:
     return Leaf(Whole.ANY, context.notes.has("owned"))
 
 
-def cut(context: Context, type_: Type, what: str, leads_to: str) -> Leaf | Tagged:
-    """A type that leads back: its contents octets are kept behind its tag, and not read."""
-    said = f"{what} leads back to {leads_to}: its contents octets are kept, and not read"
-    context.say(type_.place, said, f"{said[0].upper()}{said[1:]}.")
+def cut(context: Context, type_: Type, what: str, leads_to: str) -> Leaf | Tagged | Listed:
+    """A type that leads back: its contents octets are kept behind its tag, and not read; behind that of a SET, as values of any type."""
     env, base = first_tagged(context.state.library, context.env, type_)
+    in_set = isinstance(base, (FieldsType, ListType)) and base.is_set
+    words = "the values in it are kept, each as any value, and not checked" if in_set else "its contents octets are kept, and not read"
+    said = f"{what} leads back to {leads_to}: {words}"
+    context.say(type_.place, said)
+    if in_set:
+        return ANY_SET
     kept = Leaf(Whole.UNREAD_SEQUENCE)
     return Tagged(tag_of(context.within(env), base)[0], False, kept) if isinstance(base, TaggedType) else kept

@@ -48,6 +48,7 @@ class Result:
 
     types: int = 0
     taken: int = 0
+    unwritten: int = 0  # types that a remark says are not written, since the layer lacks them: no part of those that are taken
     has_imports: bool = True  # all modules that it imports from are there
     reasons: list[tuple[str, bool]] = field(default_factory=list)  # a refused type's, and whether it stands at the type itself
     errors: list[str] = field(default_factory=list)  # of what is no type
@@ -73,7 +74,7 @@ class Result:
 
 def source_of(folder: Path) -> Source:
     """All modules in a folder."""
-    source = Source(folder.name)
+    source = Source("/".join(folder.resolve().parts[-2:]))
     for path in sorted(path for path in folder.rglob("*") if path.suffix in SUFFIXES and path.is_file()):
         source.folders.setdefault(path.parent, []).extend(readings_of_file(path))
     return source
@@ -147,6 +148,8 @@ class Measure:
         attempt = self.state.scratch()
         try:
             if not is_written(attempt, scope, assignment):
+                is_lacking = bool(attempt.remarks)
+                result.types, result.unwritten = result.types + is_lacking, result.unwritten + is_lacking
                 return
             define_type(attempt, scope, assignment)
         except Exception as error:
@@ -186,11 +189,11 @@ def results_of(sources: list[Source]) -> dict[str, list[Result]]:
     """What becomes of all modules, by their sources."""
     found: dict[str, list[Result]] = {}
     for source in sources:
-        found[source.name] = []
+        results = found.setdefault(source.name, [])
         for folder, readings in source.folders.items():
             broken = {one.module.name: {s.name: s.error for s in one.spans if s.error} for one in readings}
             measure = Measure(library_of(sources, source, folder), broken)
-            found[source.name] += [measure.result_of(reading) for reading in readings]
+            results += [measure.result_of(reading) for reading in readings]
     return found
 
 
@@ -239,7 +242,8 @@ def reasons(found: dict[str, list[Result]]) -> list[str]:
     lines = [head, "|---|---|---|---|---|"]
     for kind, _ in sorted({**errors, **every}.items(), key=lambda item: (-every[item[0]], -errors[item[0]])):
         lines.append(f"| {kind} | {every[kind]} | {here[kind]} | {errors[kind]} | {only[kind]} |")
-    return lines
+    unwritten = sum(one.unwritten for one in results)
+    return [*lines, f"| not written, and said so: the layer lacks it | {unwritten} | {unwritten} | 0 | 0 |"]
 
 
 def main(arguments: list[str]) -> int:

@@ -32,7 +32,6 @@ KINDS = [
     (r"is imported from .* which assign it|and so hands on none", "imported from two modules"),
     (r"is named '|are both '", "names alike in Rattle"),
     (r"are not distinguished", "tags not distinct"),
-    (r"of a SET has tags between", "component of a SET with more than one tag"),
     (r"IMPLICIT stands before", "IMPLICIT before a CHOICE or an open type"),
     (r"class UNIVERSAL", "tag of the class UNIVERSAL"),
     (r"field of a field|of the field '.*' are (no )?objects", "field of a field of a class"),

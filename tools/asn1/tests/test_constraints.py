@@ -10,18 +10,55 @@ from .helpers import definitions, module_of, refusal, remarks
 from .test_writer import grammar, written
 
 
-def allowed(text: str) -> Allowed | None:
-    """What is allowed of a type."""
-    found = definitions(f"A ::= {text}")["A"]
-    assert isinstance(found, Alias) and isinstance(found.type, Leaf)
-    return found.type.allowed
+def numbers(*runs: tuple[int, int]) -> Allowed:
+    return Allowed(Measure.NUMBER, runs)
 
 
-def runs(text: str) -> tuple[tuple[int, int], ...]:
-    """The runs of a constraint that speaks of one measure."""
-    found = allowed(text)
-    assert found is not None
-    return found.runs
+def sizes(*runs: tuple[int, int]) -> Allowed:
+    return Allowed(Measure.SIZE, runs)
+
+
+def characters(*runs: tuple[int, int]) -> Allowed:
+    return Allowed(Measure.CHARACTER, runs)
+
+
+# Types, and the values that are allowed of each: None where all are, or where it cannot be checked.
+ALLOWED = [
+    ("INTEGER (0..10)", numbers((0, 10))),
+    ("INTEGER (5)", numbers((5, 5))),
+    ("INTEGER (1 | 3..5)", numbers((1, 1), (3, 5))),
+    ("INTEGER (1..3 | 4 | 9)", numbers((1, 4), (9, 9))),
+    ("INTEGER (0..9 ^ 5..20)", numbers((5, 9))),
+    ("INTEGER (0..9 EXCEPT 5)", numbers((0, 4), (6, 9))),
+    ("INTEGER (0..9) (2..20)", numbers((2, 9))),
+    ("INTEGER (-5..<0)", numbers((-5, -1))),
+    ("INTEGER (0<..9)", numbers((1, 9))),
+    ("INTEGER { two(2) } (two..9)", numbers((2, 9))),
+    ("INTEGER (0..top)", numbers((0, 7))),
+    ("INTEGER (0..255)", None),
+    ("INTEGER (-128..127)", None),
+    ("INTEGER (ALL EXCEPT 300) -- @u8", None),
+    ("INTEGER (0..10) -- @u32", numbers((0, 10))),
+    (f"INTEGER (0..{2**63})", None),
+    ("OCTET STRING (SIZE (4))", sizes((4, 4))),
+    ("UTF8String (SIZE (1..MAX))", sizes((1, 2**32 - 1))),
+    ("BIT STRING (SIZE (8 | 16))", sizes((8, 8), (16, 16))),
+    ("IA5String (SIZE (0..MAX))", None),
+    ('VisibleString (FROM ("0".."9" | "a"))', characters((48, 57), (97, 97))),
+    ('NumericString (FROM ("0123"))', characters((48, 51))),
+    ('IA5String (FROM ("b"..MAX))', characters((98, 127))),
+    ('IA5String (SIZE (1..2)) (FROM ("a".."f"))', Allowed(all_of=(sizes((1, 2)), characters((97, 102))))),
+    ('IA5String (SIZE (1..2) ^ FROM ("a".."f"))', Allowed(all_of=(sizes((1, 2)), characters((97, 102))))),
+    ('IA5String (SIZE (1..2) | FROM ("a".."f"))', Allowed(any_of=(sizes((1, 2)), characters((97, 102))))),
+]
+# Types, and what is said of each that is not checked.
+UNCHECKED = [
+    (f"INTEGER (0..{2**63})", f"2:7 INTEGER as u64: (0..{2**63}) is not checked"),
+    ("SEQUENCE { a OCTET STRING (SIZE (1), ...) }", "2:33 which values are allowed is not checked"),
+    ('IA5String ("a" | "b")', "2:18 which values are allowed is not checked"),
+    ("SEQUENCE { a INTEGER (0..9) -- @unchecked\n }", "2:20 INTEGER as u8: (0..9) is not checked"),
+    ("SEQUENCE { a INTEGER (0..9) DEFAULT 1 }", "2:20 INTEGER as u8: (0..9) is not checked"),
+]
 
 
 class Runs(unittest.TestCase):
@@ -36,72 +73,23 @@ class Runs(unittest.TestCase):
         self.assertEqual(complement(((0, 9),), (0, 9)), ())
 
 
-class Numbers(unittest.TestCase):
-    def test_ranges_and_single_values(self) -> None:
-        for text, wanted in (
-            ("(0..10)", ((0, 10),)),
-            ("(5)", ((5, 5),)),
-            ("(1 | 3..5)", ((1, 1), (3, 5))),
-            ("(1..3 | 4 | 9)", ((1, 4), (9, 9))),
-            ("(0..9 ^ 5..20)", ((5, 9),)),
-            ("(0..9 EXCEPT 5)", ((0, 4), (6, 9))),
-            ("(0..9) (2..20)", ((2, 9),)),
-            ("(-5..<0)", ((-5, -1),)),
-            ("(0<..9)", ((1, 9),)),
-        ):
+class Types(unittest.TestCase):
+    def test_what_is_allowed(self) -> None:
+        for text, wanted in ALLOWED:
             with self.subTest(text):
-                self.assertEqual(runs(f"INTEGER {text}"), wanted)
+                found = definitions(f"A ::= {text}\ntop INTEGER ::= 7")["A"]
+                assert isinstance(found, Alias) and isinstance(found.type, Leaf)
+                self.assertEqual(found.type.allowed, wanted)
 
-    def test_ends_that_are_names(self) -> None:
-        self.assertEqual(runs("INTEGER { two(2) } (two..9)"), ((2, 9),))
-        found = definitions("A ::= INTEGER (0..top)\ntop INTEGER ::= 7")["A"]
-        assert isinstance(found, Alias)
-        self.assertEqual(found.type, Leaf(found.type.whole, width="u8", allowed=Allowed(Measure.NUMBER, ((0, 7),))))
-
-    def test_a_constraint_that_allows_all_is_none(self) -> None:
-        self.assertIsNone(allowed("INTEGER (0..255)"))
-        self.assertIsNone(allowed("INTEGER (-128..127)"))
-        self.assertIsNone(allowed("INTEGER (ALL EXCEPT 300) -- @u8"))
-
-    def test_a_wider_type_is_constrained_too(self) -> None:
-        self.assertEqual(runs("INTEGER (0..10) -- @u32"), ((0, 10),))
-
-    def test_numbers_of_more_than_64_bits_are_not_compared(self) -> None:
-        text = f"INTEGER (0..{2**63})"
-        self.assertIsNone(allowed(text))
-        self.assertEqual(remarks(f"A ::= {text}"), [f"2:7 INTEGER as u64: (0..{2**63}) is not checked"])
-
-    def test_an_extensible_constraint_is_not_checked(self) -> None:
-        self.assertEqual(remarks("A ::= SEQUENCE { a OCTET STRING (SIZE (1), ...) }")[0], "2:33 which values are allowed is not checked")
+    def test_what_is_not_checked(self) -> None:
+        for text, said in UNCHECKED:
+            with self.subTest(text):
+                self.assertEqual(remarks(f"A ::= {text}"), [said])
 
     def test_no_value_is_left(self) -> None:
         for text in ("INTEGER (5..2)", "INTEGER (0..3) (4..5)", "OCTET STRING (SIZE (2..1))"):
             with self.subTest(text):
                 self.assertIn("leaves no value", str(refusal(module_of(f"A ::= {text}"))))
-
-
-class Strings(unittest.TestCase):
-    def test_sizes(self) -> None:
-        self.assertEqual(allowed("OCTET STRING (SIZE (4))"), Allowed(Measure.SIZE, ((4, 4),)))
-        self.assertEqual(runs("UTF8String (SIZE (1..MAX))"), ((1, 2**32 - 1),))
-        self.assertEqual(runs("BIT STRING (SIZE (8 | 16))"), ((8, 8), (16, 16)))
-        self.assertIsNone(allowed("IA5String (SIZE (0..MAX))"))
-
-    def test_alphabets(self) -> None:
-        wanted = Allowed(Measure.CHARACTER, ((48, 57), (97, 97)))
-        self.assertEqual(allowed('VisibleString (FROM ("0".."9" | "a"))'), wanted)
-        self.assertEqual(runs('NumericString (FROM ("0123"))'), ((48, 51),))
-        self.assertEqual(runs('IA5String (FROM ("b"..MAX))'), ((98, 127),))
-
-    def test_both(self) -> None:
-        size, characters = Allowed(Measure.SIZE, ((1, 2),)), Allowed(Measure.CHARACTER, ((97, 102),))
-        wanted = Allowed(all_of=(size, characters))
-        self.assertEqual(allowed('IA5String (SIZE (1..2)) (FROM ("a".."f"))'), wanted)
-        self.assertEqual(allowed('IA5String (SIZE (1..2) ^ FROM ("a".."f"))'), wanted)
-        self.assertEqual(allowed('IA5String (SIZE (1..2) | FROM ("a".."f"))'), Allowed(any_of=(size, characters)))
-
-    def test_strings_as_values_are_not_checked(self) -> None:
-        self.assertEqual(remarks('A ::= IA5String ("a" | "b")'), ["2:18 which values are allowed is not checked"])
 
 
 class Names(unittest.TestCase):
@@ -131,11 +119,7 @@ class Names(unittest.TestCase):
         self.assertIn("Constrained", written(checked)["src/test/a.rt"])
         unchecked = checked.replace("BEGIN", "BEGIN -- @unchecked")
         self.assertNotIn("Constrained", written(unchecked)["src/test/a.rt"])
-        self.assertEqual(remarks("A ::= SEQUENCE { a INTEGER (0..9) -- @unchecked\n }"), ["2:20 INTEGER as u8: (0..9) is not checked"])
         self.assertIn("says nothing of", str(refusal(module_of("A ::= NULL -- @unchecked"))))
-
-    def test_a_component_with_a_default(self) -> None:
-        self.assertEqual(remarks("A ::= SEQUENCE { a INTEGER (0..9) DEFAULT 1 }"), ["2:20 INTEGER as u8: (0..9) is not checked"])
 
 
 class Written(unittest.TestCase):

@@ -13,7 +13,7 @@ class Refused(unittest.TestCase):
     ROWS = [
         ("OCTET STRING DEFAULT ''H -- @owned\n", "2:41", "a value that owns its octets has no DEFAULT"),
         ('BMPString DEFAULT ""', "2:38", "a value that owns its octets has no DEFAULT"),
-        ("SEQUENCE OF NULL DEFAULT {}", "2:45", "a SEQUENCE OF or a SET OF has no DEFAULT here"),
+        ("SEQUENCE OF NULL DEFAULT { NULL }", "2:45", "a SEQUENCE OF or a SET OF has no DEFAULT here"),
         ('UTCTime DEFAULT "700101000000Z"', "2:36", "UTCTime, of which nothing but reading makes a value, has no DEFAULT here"),
         ("ANY DEFAULT 5", "2:32", "ANY, of which nothing but reading makes a value, has no DEFAULT here"),
         ("BOOLEAN DEFAULT 1", "2:36", "this value is none of BOOLEAN"),

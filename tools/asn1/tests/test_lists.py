@@ -38,6 +38,24 @@ FORMS = (
         "NonEmptyRef (UnorderedSetRef Null)",
         "NOT_EMPTY (SET_OF_ANY_ORDER NULL)",
     ),
+    (
+        "SEQUENCE SIZE (1..8) OF NULL",
+        "Constrained<ListRef<'a, Null>, HasSize<1, 8>>",
+        "Constrained (ListRef Null) (HasSize 1 8)",
+        "ALLOWED (size_in_components 1 8) (SEQUENCE_OF NULL)",
+    ),
+    (
+        "SET SIZE (2 | 4) OF ANY",
+        "Constrained<SetRef<'a, AnyRef<'a>>, UnionOf<HasSize<2, 2>, HasSize<4, 4>>>",
+        "Constrained (SetRef AnyRef) (UnionOf (HasSize 2 2) (HasSize 4 4))",
+        "ALLOWED (union (size_in_components 2 2) (size_in_components 4 4)) (SET_OF ANY)",
+    ),
+    (
+        "SET SIZE (0..2) OF NULL -- @any_order\n",
+        "Constrained<UnorderedSetRef<'a, Null>, HasSize<0, 2>>",
+        "Constrained (UnorderedSetRef Null) (HasSize 0 2)",
+        "ALLOWED (size_in_components 0 2) (SET_OF_ANY_ORDER NULL)",
+    ),
     ("SEQUENCE OF SET OF NULL", "ListRef<'a, SetRef<'a, Null>>", "ListRef (SetRef Null)", "SEQUENCE_OF (SET_OF NULL)"),
     ("SET OF B", "SetRef<'a, B<'a>>", "SetRef B", "SET_OF b"),
 )
@@ -134,6 +152,7 @@ class Fields(unittest.TestCase):
             ("[0] SET OF NULL", "Implicit<SetRef<'a, Null>, 0>"),
             ("[0] EXPLICIT SET OF NULL -- @any_order\n", "Explicit<UnorderedSetRef<'a, Null>, 0>"),
             ("[1] SEQUENCE SIZE (1..MAX) OF NULL OPTIONAL", "Option<Implicit<NonEmptyRef<ListRef<'a, Null>>, 1>>"),
+            ("[2] SET SIZE (2) OF NULL OPTIONAL", "Option<Implicit<Constrained<SetRef<'a, Null>, HasSize<2, 2>>, 2>>"),
         ):
             with self.subTest(text):
                 source = written(module_of(f"A ::= SEQUENCE {{ a {text} }}", "IMPLICIT TAGS"))["src/test/a.rt"]
@@ -210,6 +229,15 @@ class Named(unittest.TestCase):
         self.assertIn("    pub fn items(&self) -> &ListRef<'a, Null>\n", source)
         self.assertIn("        self.items.list()\n", source)
         self.assertIn("abbrev pub items_of : A → ListRef Null\nitems_of v = v.items.list\n", files["specs/Test/A.antt"])
+
+    def test_one_of_some_sizes_gives_the_list(self) -> None:
+        files = written(module_of("A ::= SET SIZE (2..4) OF NULL"))
+        source = files["src/test/a.rt"]
+        self.assertIn("    pub fn new(items: Constrained<SetRef<'a, Null>, HasSize<2, 4>>) -> A<'a>\n", source)
+        self.assertIn("        ensures { a.items_of result ≡ value_of items.entry }\n", source)
+        self.assertIn("    pub fn items(&self) -> &SetRef<'a, Null>\n", source)
+        self.assertIn("        &self.items\n", source)
+        self.assertIn("abbrev pub items_of : A → SetRef Null\nitems_of v = v.items.value\n", files["specs/Test/A.antt"])
 
     def test_its_name_is_no_word_of_the_clauses(self) -> None:
         source = written(module_of("ListOf ::= SEQUENCE SIZE (1..MAX) OF NULL"))["src/test/list_of.rt"]

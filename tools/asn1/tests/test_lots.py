@@ -15,7 +15,7 @@ TEXTS = {
     "two/near.asn": "Near DEFINITIONS ::= BEGIN C ::= BOOLEAN END",
     "two/far.asn": "Far DEFINITIONS ::= BEGIN B ::= INTEGER END",
     "two/copy.asn": "Far DEFINITIONS ::= BEGIN B ::= INTEGER END",
-    "two/refused.asn": "Refused DEFINITIONS ::= BEGIN A ::= SEQUENCE { a REAL } END",
+    "two/refused.asn": "Refused DEFINITIONS ::= BEGIN A ::= SEQUENCE { a [0] EXPLICIT B } END",
     "two/lacking.asn": "Lacking DEFINITIONS ::= BEGIN IMPORTS B FROM Nowhere; A ::= SEQUENCE { b B } END",
     "two/values.asn": "Values DEFINITIONS ::= BEGIN a INTEGER ::= 5 END",
     "two/several.asn": "S-1 DEFINITIONS ::= BEGIN A ::= NULL END\nS-2 DEFINITIONS ::= BEGIN IMPORTS A FROM S-1; B ::= SEQUENCE { a A } END",

@@ -9,7 +9,6 @@ from ..model import (
     Allowed,
     Choice,
     Definition,
-    Enumeration,
     Leaf,
     List,
     Listed,
@@ -22,7 +21,7 @@ from ..model import (
 )
 from ..properties import tags_of
 from ..writer.leaves import WHOLES
-from .helpers import definitions, module_of, remarks, resolved
+from .helpers import definitions, module_of, refusal, remarks, resolved
 from .test_writer import grammar, written
 
 # Names of numbers, of which one is the name of another.
@@ -55,26 +54,6 @@ def leaf(body: str) -> Leaf:
     return found
 
 
-def numbers(body: str) -> list[tuple[str, int]]:
-    """The names and numbers of the ENUMERATED `A` of a module."""
-    found = definitions(body)["A"]
-    assert isinstance(found, Enumeration)
-    return [(one.name, one.number) for one in found.values]
-
-
-class Enumerations(unittest.TestCase):
-    def test_numbers_that_are_left_out_begin_with_0(self) -> None:
-        """20.3: the first has 0, and each that follows one more."""
-        self.assertEqual(numbers("A ::= ENUMERATED { a, b, c }"), [("a", 0), ("b", 1), ("c", 2)])
-        self.assertEqual(numbers("A ::= ENUMERATED { a }"), [("a", 0)])
-        self.assertEqual(numbers("A ::= ENUMERATED { a, b(1), c }"), [("a", 0), ("b", 1), ("c", 2)])
-
-    def test_what_is_written_has_these_numbers(self) -> None:
-        text = written(module_of("A ::= ENUMERATED { red, green }"))["src/test/a.rt"]
-        for line in ("A::Red => 0,", "A::Green => 1,", "0 => Some(A::Red),", "1 => Some(A::Green),"):
-            self.assertIn(line, text)
-
-
 class NumbersByName(unittest.TestCase):
     """A number that is the name of a value is the number of that value."""
 
@@ -98,10 +77,6 @@ class NumbersByName(unittest.TestCase):
         said = remarks(VALUES + "A ::= INTEGER (three..also-seven) -- @unchecked")
         self.assertEqual([text.split(" ", 1)[1] for text in said], ["INTEGER as u8: (3..7) is not checked"])
 
-    def test_of_an_enumeration(self) -> None:
-        found = numbers(VALUES + "A ::= ENUMERATED { a(three), b(zero), c(also-seven), d }")
-        self.assertEqual(found, [("a", 3), ("b", 0), ("c", 7), ("d", 1)])
-
     def test_of_named_numbers_and_bits(self) -> None:
         found = alias(VALUES + "A ::= INTEGER { a(zero), b(also-seven) }")
         self.assertEqual([(one.name, one.number) for one in found.numbers], [("a", 0), ("b", 7)])
@@ -115,10 +90,10 @@ class NumbersByName(unittest.TestCase):
         self.assertEqual([part.default for part in found.fields], [3, 0])
 
     def test_of_a_size(self) -> None:
-        for text, is_never_empty in (("zero..three", False), ("three..top", True), ("three", True)):
+        for text, ends in (("zero..three", (0, 3)), ("three..top", (3, 255)), ("three", (3, 3))):
             found = definitions(f"{VALUES}A ::= SEQUENCE SIZE ({text}) OF NULL")["A"]
             assert isinstance(found, List)
-            self.assertEqual(found.is_never_empty, is_never_empty, text)
+            self.assertEqual(found.allowed, Allowed(Measure.SIZE, (ends,)), text)
 
     def test_of_an_arc(self) -> None:
         found, _ = resolved(module_of(VALUES + "a OBJECT IDENTIFIER ::= { iso(1) x(three) seven }"))
@@ -232,41 +207,73 @@ class Leaves(unittest.TestCase):
 
 
 class Sizes(unittest.TestCase):
-    """A SIZE whose least is 1 or more is checked as (1..MAX), before OF of a SEQUENCE and of a SET."""
+    """SIZE before OF, of a SEQUENCE and of a SET: the sizes that are allowed, or that the list has an item, or all."""
 
-    def test_a_least_of_1_or_more_is_never_empty(self) -> None:
-        for size, is_never_empty in (
-            ("1..MAX", True),
-            ("2..MAX", True),
-            ("2..3", True),
-            ("3", True),
-            ("2 | 4", True),
-            ("0..MAX", False),
-            ("0..3", False),
-            ("0 | 4", False),
+    MOST = 2**32 - 1
+
+    def test_the_sizes_of_each_constraint(self) -> None:
+        for size, is_never_empty, runs in (
+            ("1..MAX", True, None),
+            ("1 | 2..MAX", True, None),
+            ("0<..MAX", True, None),
+            ("2..MAX", False, ((2, self.MOST),)),
+            ("1..3", False, ((1, 3),)),
+            ("3", False, ((3, 3),)),
+            ("2 | 4", False, ((2, 2), (4, 4))),
+            ("0..MAX", False, None),
+            ("0..3", False, ((0, 3),)),
+            ("0 | 4", False, ((0, 0), (4, 4))),
+            ("0..9 EXCEPT 5", False, ((0, 4), (6, 9))),
+            (f"0..{self.MOST + 1}", False, None),
         ):
             for kind in ("SEQUENCE", "SET"):
                 with self.subTest(kind=kind, size=size):
                     found = definitions(f"A ::= {kind} SIZE ({size}) OF NULL")["A"]
                     assert isinstance(found, List)
                     self.assertEqual((found.is_set, found.is_never_empty), (kind == "SET", is_never_empty))
+                    self.assertEqual(found.allowed, None if runs is None else Allowed(Measure.SIZE, runs))
+                    self.assertEqual(remarks(f"A ::= {kind} SIZE ({size}) OF NULL"), [])
 
     def test_of_a_list_that_is_written_out(self) -> None:
         found = struct("A ::= SEQUENCE { a SET SIZE (2..MAX) OF NULL, b SEQUENCE SIZE (0..2) OF NULL, c SET OF NULL }")
         lists = [part.type for part in found.fields if isinstance(part.type, Listed)]
         self.assertEqual([one.is_set for one in lists], [True, False, True])
-        self.assertEqual([one.is_never_empty for one in lists], [True, False, False])
+        self.assertEqual([one.allowed and one.allowed.runs for one in lists], [((2, self.MOST),), ((0, 2),), None])
+
+    def test_of_constraints_one_after_another(self) -> None:
+        found = struct("L{T} ::= T (SIZE (1..4))\nA ::= SEQUENCE { a L{SEQUENCE SIZE (3..9) OF NULL} }").fields[0].type
+        assert isinstance(found, Listed)
+        self.assertEqual(found.allowed, Allowed(Measure.SIZE, ((3, 4),)))
 
     def test_what_is_written_checks_it(self) -> None:
         body = "A ::= SEQUENCE SIZE (2..MAX) OF NULL\nB ::= SEQUENCE SIZE (1..MAX) OF NULL\nC ::= SEQUENCE OF NULL"
         files, found = written(module_of(body)), grammar(body)
-        self.assertIn("NonEmptyRef<ListRef<'a, Null>>", files["src/test/a.rt"])
-        self.assertNotIn("NonEmpty", files["src/test/c.rt"])
-        self.assertEqual(found["a"], found["b"])
-        self.assertNotEqual(found["a"], found["c"])
+        self.assertIn(f"    items: Constrained<ListRef<'a, Null>, HasSize<2, {self.MOST}>>,\n", files["src/test/a.rt"])
+        self.assertIn("    items: NonEmptyRef<ListRef<'a, Null>>,\n", files["src/test/b.rt"])
+        self.assertIn("    items: ListRef<'a, Null>,\n", files["src/test/c.rt"])
+        self.assertEqual(found["a"], f"ALLOWED (size_in_components 2 {self.MOST}) (SEQUENCE_OF NULL)")
+        self.assertEqual((found["b"], found["c"]), ("NOT_EMPTY (SEQUENCE_OF NULL)", "SEQUENCE_OF NULL"))
+
+    def test_no_size_is_left(self) -> None:
+        for text, kind in (("SEQUENCE SIZE (3..2) OF NULL", "SEQUENCE OF"), (f"SET SIZE ({self.MOST + 1}) OF NULL", "SET OF")):
+            with self.subTest(text):
+                self.assertIn(f"2:7: error: the constraints leave no value of this {kind}\n", str(refusal(module_of(f"A ::= {text}"))))
 
     def test_what_is_not_checked_is_said(self) -> None:
-        self.assertEqual(remarks("A ::= SEQUENCE SIZE (2..MAX) OF NULL"), ["2:16 SIZE (2..MAX) is checked as (1..MAX)"])
+        for text, said in (
+            ("SEQUENCE SIZE (2..MAX) OF NULL -- @unchecked", "SIZE (2..MAX) is checked as (1..MAX)"),
+            ("SEQUENCE SIZE (0..2) OF NULL -- @unchecked", "SIZE (0..2) is not checked"),
+            ("SEQUENCE SIZE (1..2, ...) OF NULL", "SIZE (MIN..MAX) is not checked"),
+        ):
+            with self.subTest(text):
+                self.assertEqual(remarks(f"A ::= {text}"), [f"2:16 {said}"])
+                found = definitions(f"A ::= {text}")["A"]
+                assert isinstance(found, List)
+                self.assertIsNone(found.allowed)
+
+    def test_of_the_name_of_a_list_none_is_checked(self) -> None:
+        said = remarks("A ::= SEQUENCE { a B (SIZE (1..2)) }\nB ::= SEQUENCE OF NULL")
+        self.assertEqual(said, ["2:23 SIZE (1..2) is not checked"])
 
 
 class NamedNumbers(unittest.TestCase):

@@ -6,7 +6,7 @@ import re
 import unittest
 
 from ..model import Alias, Leaf, Struct, Tagged, Use, Whole
-from .helpers import definitions, module_of, remarks, resolved
+from .helpers import definitions, module_of, refusal, remarks, resolved
 from .test_writer import grammar
 
 
@@ -70,6 +70,21 @@ class Instances(unittest.TestCase):
         for part, tags in (("a [0] T DEFAULT 5", "IMPLICIT TAGS"), ("a T DEFAULT 5", "AUTOMATIC TAGS")):
             body = f"P{{T}} ::= SEQUENCE {{ {part} }}\nA ::= P{{B}}\nB ::= INTEGER (0..255)"
             self.assertIn(wanted, grammar(body, tags)["a"])
+
+    def test_constraints_by_a_parameter_are_those_of_one_instance(self) -> None:
+        instead = "write its type out here; or, where a constraint alone differs, '-- @unchecked' after that type"
+        for text in (
+            "OCTET STRING (SIZE (1..max))",
+            "SEQUENCE SIZE (1..max) OF NULL",
+            "SEQUENCE { x OCTET STRING (SIZE (1..max)) }",
+            "CHOICE { x INTEGER (0..255) (0..max), y NULL }",
+        ):
+            with self.subTest(text):
+                body = f"L{{INTEGER:max}} ::= {text}\nA ::= SEQUENCE {{ a L{{4}}, b [0] L{{4}} }}"
+                self.assertIn("L", definitions(body))
+                self.assertIn(instead, str(refusal(module_of(body.replace("[0] L{4}", "[0] L{8}")))))
+        body = "L{INTEGER:max} ::= SEQUENCE { x OCTET STRING (SIZE (1..max)) -- @unchecked\n }\nA ::= SEQUENCE { a L{4}, b [0] L{8} }"
+        self.assertEqual(remarks(body), ["2:47 SIZE (1..4) is not checked"])
 
     def test_names_of_numbers(self) -> None:
         body = "E{T} ::= INTEGER { a(0), b(1) }\nA ::= SEQUENCE { a E{NULL} DEFAULT b }"

@@ -6,7 +6,7 @@ import unittest
 
 from ..model import Leaf, Tag, Tagged, Use, Whole
 from .helpers import definitions, module_of, refusal, remarks, resolved
-from .test_writer import written
+from .test_writer import grammar, written
 
 KEPT = Leaf(Whole.UNREAD_SEQUENCE)
 FILTER = """Filter ::= CHOICE {
@@ -89,8 +89,27 @@ class Recursion(unittest.TestCase):
         found = definitions("A ::= SEQUENCE { a OCTET STRING (CONTAINING A) }")
         self.assertEqual(found["A"].fields[0].type, Leaf(Whole.OCTET_STRING))
 
-    def test_a_set_with_its_own_tag_is_not_cut(self) -> None:
-        error = refusal(module_of("A ::= SET { a A OPTIONAL }"))
+    def test_a_set_with_its_own_tag_is_cut_where_nothing_else_can_be(self) -> None:
+        for body, term in (
+            ("A ::= SET { a A OPTIONAL }", "SET (OPTIONAL (SET_OF_ANY_ORDER ANY) end)"),
+            ("A ::= SET { a SET OF A }", "SET (field (SET_OF_ANY_ORDER ANY) end)"),
+            ("A ::= SET OF A", "SET_OF (SET_OF_ANY_ORDER ANY)"),
+            ("A ::= SET { a [0] A OPTIONAL }", "SET (OPTIONAL (IMPLICIT context 0 UNREAD_SEQUENCE) end)"),
+            ("A ::= SET { a B OPTIONAL }\nB ::= CHOICE { a A, b NULL }", "SET (OPTIONAL b end)"),
+            ("A ::= CHOICE { a SET { b A }, c NULL }", "CHOICE (SET_OF_ANY_ORDER ANY) NULL"),
+            ("A ::= SET { a B OPTIONAL }\nB ::= SEQUENCE { a A }", "SET (OPTIONAL UNREAD_SEQUENCE end)"),
+            ("A ::= SET OF B\nB ::= CHOICE { a A, b NULL }", "SET_OF b"),
+            ("P{T} ::= SET { a P{T} OPTIONAL }\nA ::= P{INTEGER}", "SET (OPTIONAL (SET_OF_ANY_ORDER ANY) end)"),
+            ("P{T} ::= SET { a P{P{T}} OPTIONAL }\nA ::= P{INTEGER}", "SET (OPTIONAL (SET_OF_ANY_ORDER ANY) end)"),
+        ):
+            with self.subTest(body):
+                self.assertEqual(grammar(body)["a"], term)
+        said = "'a' leads back to A: the values in it are kept, each as any value, and not checked"
+        self.assertEqual(remarks("A ::= SET { a A OPTIONAL }"), [f"2:15 {said}"])
+        self.assertEqual(grammar("A ::= SET { a B OPTIONAL }\nB ::= CHOICE { a A, b NULL }")["b"], "CHOICE (SET_OF_ANY_ORDER ANY) NULL")
+
+    def test_a_choice_with_no_tag_is_not_cut(self) -> None:
+        error = refusal(module_of("A ::= CHOICE { a A, b NULL }"))
         self.assertIn("reaches itself", error.problem)
         self.assertIn("@unread", error.instead)
 

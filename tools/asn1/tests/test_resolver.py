@@ -8,7 +8,6 @@ from ..model import (
     Alias,
     Choice,
     Definition,
-    Enumeration,
     Field,
     Leaf,
     List,
@@ -99,8 +98,9 @@ class Integers(unittest.TestCase):
             ("BMPString (SIZE (4))", ["2:18 SIZE (4..4) is not checked"]),
             ("BIT STRING { a(0) } (SIZE (4))", ["2:28 SIZE (4..4) is not checked"]),
             ("SEQUENCE SIZE (1..MAX) OF NULL", []),
-            ("SEQUENCE SIZE (1..4) OF NULL", ["2:16 SIZE (1..4) is checked as (1..MAX)"]),
-            ("SEQUENCE SIZE (0..4) OF NULL", ["2:16 SIZE (0..4) is not checked"]),
+            ("SEQUENCE SIZE (1..4) OF NULL", []),
+            ("SEQUENCE SIZE (1..4) OF NULL -- @unchecked", ["2:16 SIZE (1..4) is checked as (1..MAX)"]),
+            ("SEQUENCE SIZE (0..4) OF NULL -- @unchecked", ["2:16 SIZE (0..4) is not checked"]),
             ("OCTET STRING (CONTAINING NULL)", ["2:21 the octets that CONTAINING speaks of are not read"]),
             ("SEQUENCE { a NULL, ... }", ["2:7 '...': fields that this module does not have are refused"]),
         ):
@@ -261,11 +261,6 @@ class Lists(unittest.TestCase):
         assert isinstance(first, List) and isinstance(second, List)
         self.assertEqual((first.is_set, first.is_never_empty), (False, True))
         self.assertEqual((second.is_set, second.is_never_empty), (True, False))
-
-    def test_enumerated(self) -> None:
-        found = definitions("A ::= ENUMERATED { a, b(0), c, d(5), ..., e }")["A"]
-        assert isinstance(found, Enumeration)
-        self.assertEqual([(one.name, one.number) for one in found.values], [("a", 1), ("b", 0), ("c", 2), ("d", 5), ("e", 3)])
 
 
 class Properties(unittest.TestCase):

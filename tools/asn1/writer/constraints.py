@@ -4,7 +4,7 @@ from __future__ import annotations
 
 from typing import Protocol
 
-from ..model import Allowed, Leaf, Measure, Whole
+from ..model import Allowed, Measure, Whole
 from .source import Page, Source
 
 CONSTANTS = 2**64  # how many numbers a constant has: the logic has a negative one as its two's complement
@@ -68,10 +68,10 @@ def joined(outer: str, parts: list[str]) -> str:
 # ---- on the page of the grammar
 
 
-def allowed_term(words: Words, leaf: Leaf, allowed: Allowed) -> str:
-    """Which contents octets are those of values that are allowed."""
+def allowed_term(words: Words, allowed: Allowed, size_word: str) -> str:
+    """Which contents octets are those of values that are allowed; the word says what a size counts."""
     if allowed.measure is None:
-        parts = [allowed_term(words, leaf, part) for part in allowed.any_of or allowed.all_of]
+        parts = [allowed_term(words, part, size_word) for part in allowed.any_of or allowed.all_of]
         return joined(words.constraint_word("union" if allowed.any_of else "intersection"), parts)
     if allowed.measure is Measure.CHARACTER:
         name = words.constraint_word("characters")
@@ -81,7 +81,7 @@ def allowed_term(words: Words, leaf: Leaf, allowed: Allowed) -> str:
         name = words.constraint_word("range")
         ends = [f"{integer(words, low)} {integer(words, high)}" for low, high in allowed.runs]
     else:
-        name = words.constraint_word(size_word(leaf.whole))
+        name = words.constraint_word(size_word)
         ends = [f"{low} {high}" for low, high in allowed.runs]
     return joined_if_many(words, "union", [f"{name} {one}" for one in ends])
 
@@ -96,8 +96,8 @@ def integer(words: Words, number: int) -> str:
     return f"({name} {number if number >= 0 else -number - 1})"
 
 
-def size_word(whole: Whole) -> str:
-    """What a size counts."""
+def size_word_of(whole: Whole) -> str:
+    """What a size of a type with no items counts."""
     if whole is Whole.BIT_STRING:
         return "size_in_bits"
     return "size_in_characters" if whole is Whole.UTF8_STRING else "size_in_octets"

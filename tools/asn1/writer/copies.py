@@ -167,7 +167,9 @@ def is_compared(type_: Resolved) -> bool:
 
 
 def way_to_list(type_: Listed) -> str:
-    """The way from a list that has an item to the list."""
+    """The way to a list from a list of which not all values are allowed."""
+    if type_.allowed is not None:
+        return ".value"
     return ".list" if type_.is_never_empty else ""
 
 

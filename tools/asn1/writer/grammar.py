@@ -13,6 +13,7 @@ from .. import as_written
 from ..as_written import Key, Part, key_of
 from ..model import (
     Alias,
+    Allowed,
     Choice,
     Definition,
     Enumeration,
@@ -47,7 +48,7 @@ from ..syntax import (
 )
 from ..values import number_of
 from .alternatives import halves
-from .constraints import allowed_term
+from .constraints import allowed_term, size_word_of
 from .default_page import CLASSES, DefaultTerms
 from .names import ADDITIONS, ASN1, CONSTRAINT_WORDS, LISTS, PARSES, WORDS
 from .plan import Plan
@@ -172,7 +173,7 @@ class GrammarPage:
         types, lines = resolved_parts(definition.fields), []
         for part in as_written.fields(self.library, env, type_):
             inner = self.component(part, types[key_of(part.component)])
-            if part.component.optional:
+            if part.component.optional or as_written.has_empty_list(self.library, part):
                 lines.append(f"{self.asn1('OPTIONAL')} {closed(inner)}")
             elif part.component.default is not None:
                 default = self.defaults.default(part, types[key_of(part.component)])
@@ -195,10 +196,16 @@ class GrammarPage:
 
     def kept(self, tag: tuple[int, int]) -> str:
         """The grammar of contents octets that are kept behind a tag, and not read."""
+        if tag == (TagClass.UNIVERSAL.value, as_written.SET):
+            return self.any_set()
         leaf = self.leaf(Leaf(Whole.UNREAD_SEQUENCE))
         if tag[0] == TagClass.UNIVERSAL.value:
             return leaf
         return f"{self.asn1(TagMode.IMPLICIT.value)} {self.asn1(CLASSES[TagClass(tag[0])])} {tag[1]} {leaf}"
+
+    def any_set(self) -> str:
+        """The grammar of a SET whose components are kept, each as any value."""
+        return f"{self.page.from_module(LISTS, 'SET_OF_ANY_ORDER')} {closed(self.leaf(Leaf(Whole.ANY)))}"
 
     def choice(self, alternatives: list[str]) -> str:
         """The alternatives, as a balanced tree."""
@@ -229,14 +236,23 @@ class GrammarPage:
         if isinstance(type_, ReferenceType):
             env, type_ = follow(self.library, env, type_)
             return self.term(env, type_, resolved)
-        assert isinstance(type_, ListType) and isinstance(resolved, Listed)
+        assert isinstance(resolved, Listed)
+        if isinstance(type_, FieldsType):
+            return self.any_set()
+        assert isinstance(type_, ListType)
         return self.items(env, type_, resolved)
 
     def items(self, env: Env, type_: ListType, listed: Listed) -> str:
         """The grammar of a list."""
         item = closed(self.term(env, type_.item, listed.item))
         found = f"{self.list_word(type_, listed)} {item}"
+        if listed.allowed is not None:
+            return self.allowed(listed.allowed, "size_in_components", found)
         return f"{self.asn1('NOT_EMPTY')} ({found})" if listed.is_never_empty else found
+
+    def allowed(self, allowed: Allowed, size_word: str, inner: str) -> str:
+        """The grammar of a type of which a constraint allows some values."""
+        return f"{self.constraint_word('ALLOWED')} {closed(allowed_term(self, allowed, size_word))} {closed(inner)}"
 
     def list_word(self, type_: ListType, listed: Listed) -> str:
         """The word of a list: whether it is a SET is the text's to say."""
@@ -255,7 +271,7 @@ class GrammarPage:
         """A type of the library, of which a constraint may allow some values."""
         if leaf.allowed is not None:
             inner = self.leaf(replace(leaf, allowed=None))
-            return f"{self.constraint_word('ALLOWED')} {closed(allowed_term(self, leaf, leaf.allowed))} {closed(inner)}"
+            return self.allowed(leaf.allowed, size_word_of(leaf.whole), inner)
         if leaf.whole is Whole.MACHINE_INTEGER:
             width = leaf.width or "u8"
             parse = "signed" if width[0] == "i" else "unsigned"

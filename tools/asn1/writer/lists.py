@@ -61,7 +61,9 @@ def own_calls(source: Source, definition: List, lifetime: str, held: str) -> str
     source.word("≡")
     of = f"{words}.items_of"
     given, inner = "items.entry", "&self.items"
-    if listed.is_never_empty:
+    if listed.allowed is not None:
+        given, inner = f"{source.word('value_of')} items.entry", "&self.items"
+    elif listed.is_never_empty:
         given, inner = f"{source.word('list_of')} items.entry", "self.items.list()"
     return f"""impl{lifetime} {definition.rust}{lifetime} {{
     ghost use Rattle.{source.target.crate}.specs.{source.target.page}.{definition.rust} as {words};
@@ -74,7 +76,7 @@ def own_calls(source: Source, definition: List, lifetime: str, held: str) -> str
     }}
 
     /// The items, in their order.
-    pub fn items(&self) -> &{rust_type(source, replace(listed, is_never_empty=False))}
+    pub fn items(&self) -> &{rust_type(source, replace(listed, is_never_empty=False, allowed=None))}
         ensures {{ result.now ≡ {of} self.now }}
     {{
         {inner}

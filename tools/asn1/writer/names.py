@@ -192,6 +192,7 @@ WORDS: dict[str, tuple[str, str]] = {
     "∷": ("std.specs.Prelude", "◌∷◌"),
     "List": ("std.specs.Prelude", "List"),
     "list_of": ("der_lists.specs.NonEmptyRef", "list_of"),
+    "value_of": ("der_constrained.specs.Constrained", "value_of"),
     "numbers_decide": ("der_numbers.specs.EnumeratedLaws", "numbers_decide"),
     "pos": ("std.specs.Prelude", "pos"),
     "negsuc": ("std.specs.Prelude", "negsuc"),
@@ -324,6 +325,7 @@ CONSTRAINT_WORDS = {
     **dict.fromkeys(["ALLOWED", "union", "intersection"], "der_constrained.specs.Asn1"),
     "range": "der_constrained.specs.Integers",
     **dict.fromkeys(["size_in_bits", "size_in_characters", "size_in_octets"], "der_constrained.specs.Sizes"),
+    "size_in_components": "der_constrained.specs.Components",
     **dict.fromkeys(["characters", "either_set", "permitted"], "der_constrained.specs.Alphabets"),
 }
 

@@ -7,7 +7,7 @@ from dataclasses import replace
 from ..model import Alias, Enumeration, Field, Leaf, Listed, NameOf, Presence, Resolved, Tag, Tagged, Use, Whole
 from ..properties import properties_of, properties_of_definition
 from ..syntax import TagClass
-from .constraints import logic_constraint
+from .constraints import constraint_type, logic_constraint
 from .leaves import CHARACTERS, WHOLES, lifetime_of, rust_leaf
 from .source import Page, Source
 
@@ -43,6 +43,8 @@ def rust_type(source: Source, type_: Resolved) -> str:
 def rust_list(source: Source, type_: Listed) -> str:
     """A list, which borrows the octets that were read."""
     found = f"{source.use(list_name(type_))}<'a, {rust_type(source, type_.item)}>"
+    if type_.allowed is not None:
+        return f"{source.use('Constrained')}<{found}, {constraint_type(source, type_.allowed)}>"
     return f"{source.use('NonEmptyRef')}<{found}>" if type_.is_never_empty else found
 
 
@@ -141,11 +143,17 @@ def logic_type(page: Page, type_: Resolved) -> str:
     if isinstance(type_, NameOf):
         return page.logic_type(type_.definition)
     if isinstance(type_, Listed):
-        found = f"{page.logic(list_name(type_))} {closed(logic_type(page, type_.item))}"
-        return f"{page.logic('NonEmptyRef')} ({found})" if type_.is_never_empty else found
+        return logic_list(page, type_)
     if type_.holder is not None:
         return page.logic_type(type_.holder)
     return logic_tagged(page, type_.tag, type_.is_explicit, closed(logic_type(page, type_.of)))
+
+
+def logic_list(page: Page, type_: Listed) -> str:
+    found = f"{page.logic(list_name(type_))} {closed(logic_type(page, type_.item))}"
+    if type_.allowed is not None:
+        return f"{page.logic('Constrained')} ({found}) {closed(logic_constraint(page, type_.allowed))}"
+    return f"{page.logic('NonEmptyRef')} ({found})" if type_.is_never_empty else found
 
 
 def logic_tagged(page: Page, tag: Tag, is_explicit: bool, inner: str) -> str:

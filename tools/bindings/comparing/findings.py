@@ -75,4 +75,5 @@ def wrong_words(rule: Rule, arm: Arm) -> list[Difference]:
         words = f'"has a critical {extension}"' if is_not else f'"has a {extension} that is not critical"'
     else:
         words = f'{"is_critical" if is_not else "is_not_critical"}("{extension}"'
-    return [] if words in arm.value else [Difference(FILE, arm.line, f"the finding of {rule.name} lacks {words}")]
+    value = re.sub(r"\(\s+", "(", arm.value)
+    return [] if words in value else [Difference(FILE, arm.line, f"the finding of {rule.name} lacks {words}")]

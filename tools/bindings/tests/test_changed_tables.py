@@ -4,7 +4,7 @@ from __future__ import annotations
 
 from ..command import RULES, STRUCTS
 from .test_lists import (
-    BITS, FINDINGS, GO, HEADER, LISTS, LISTS_ANTT, PAGE, PLACES, PYTHON, RULES_ANTT, RUST, SECTIONS, SYS, VERIFY,
+    BITS, CHECKED, FINDINGS, GO, HEADER, LISTS, LISTS_ANTT, PAGE, PLACES, PYTHON, RULES_ANTT, RUST, SAFE, SECTIONS, SYS, VERIFY, WALK,
 )
 from .tree import TreeTest
 
@@ -123,12 +123,12 @@ class ChangedStructs(TreeTest):
         text = self.text(STRUCTS)
         start = text.index("attribute: Attribute ")
         self.change(STRUCTS, text[start:], "")
-        expected = {HEADER, SYS, PLACES, PYTHON, "docs/C.md", "crates/der_c/src/attribute.rt", *self.C_OF_PYTHON}
+        expected = {HEADER, CHECKED, WALK, SYS, SAFE, PLACES, PYTHON, "docs/C.md", "crates/der_c/src/attribute.rt", *self.C_OF_PYTHON}
         self.assertEqual(self.files_told(), expected | {"rust/der-proved/src/attribute.rs", "go/der/attribute.go"})
 
     def test_a_struct_more(self) -> None:
         more = "key: Key (RFC 1 2.3) | key\n    file: key\n    reads: all\n    out: KeyPlaces\n        octets field an OCTET STRING\n"
         text = self.text(STRUCTS)
         self.change(STRUCTS, text, f"{text}\n{more}")
-        expected = {HEADER, SYS, PLACES, PYTHON, "docs/C.md", "crates/der_c/src", *self.C_OF_PYTHON}
+        expected = {HEADER, CHECKED, SYS, SAFE, PLACES, PYTHON, "docs/C.md", "crates/der_c/src", *self.C_OF_PYTHON}
         self.assertEqual(self.files_told(), expected | {"rust/der-proved/src/key.rs", "go/der/key.go"})

@@ -5,7 +5,7 @@ from __future__ import annotations
 from ..comparing.findings import FILE
 from .tree import TreeTest
 
-LAST = '        _ => is_not_critical("inhibitAnyPolicy", &[0x55, 0x1d, 54]),\n'
+LAST = '        _ => is_not_critical("inhibitAnyPolicy", &ID_CE_INHIBIT_ANY_POLICY),\n'
 
 
 class Findings(TreeTest):

@@ -4,8 +4,11 @@ from __future__ import annotations
 
 from .tree import TreeTest
 
-HEADER = "c/include/der.h"
+HEADER = "c/include/barleypulley/der.h"
+CHECKED = "c/checked.c"
+WALK = "c/walk.c"
 SYS = "rust/der-proved-sys/src/lib.rs"
+SAFE = "rust/der-proved-sys/src/safe.rs"
 RUST = "rust/der-proved/src/rules.rs"
 GO = "go/der/rules.go"
 PYTHON = "python/src/derproved/__init__.py"
@@ -27,18 +30,20 @@ WRITTEN = [
     (HEADER, "    der_place encap_content_info;", "    der_place encapsulated_content;", 0),
     (HEADER, "sizeof(der_signer_info_at) == 72", "sizeof(der_signer_info_at) == 80", 0),
     (HEADER, "uint32_t der_content_info(const", "uint32_t der_content(const", 0),
-    (HEADER, "#define der_extension der_checked_extension\n", "", 0),
-    (HEADER, "    out->cert_id = der_behind(before, out->cert_id);\n", "", 0),
+    (HEADER, "uint32_t der_next_extension(", "uint32_t der_next(", 0),
+    (CHECKED, "CHECKED(extension, der_extension_at)\n", "", 0),
+    (WALK, "NEXT(single_response, der_single_response_at, 6)", "NEXT(single_response, der_single_response_at, 5)", 0),
     (SYS, "    pub responder_id: Place,\n", "", 0),
     (SYS, "    pub response_status_number: i64,", "    pub response_status_number: u64,", 0),
     (SYS, "    pub fn der_extension(", "    pub fn der_extensions(", 0),
+    (SAFE, "    extension: der_extension -> crate::ExtensionAt,\n", "", 0),
     (RUST, '        UniqueIdentifiersInVersion2 "4.1.2.8"', '        UniqueIdentifiersInVersion2 "4.1.2.9"', 0),
     (RUST, '        NextUpdateIsThere "5.1.2.5"', '        NextUpdate "5.1.2.5"', 0),
     (GO, "\tCertificateIssuerIsNotEmpty\n", "\tCertificateIssuerNotEmpty\n", 0),
     (GO, "the issuer is not empty (5.1.2.3)", "the issuer is not empty (5.1.2.4)", 0),
     (PYTHON, "    SERIAL_NUMBER_IS_POSITIVE = 1 << 2", "    SERIAL_NUMBER_POSITIVE = 1 << 2", 0),
     (PYTHON, '    """Each extension of the list stands once (5.2, 4.2)."""\n', "", 0),
-    (PLACES, "    subject_public_key = 1\n", "    subject_public_key = 2\n", 0),
+    (PLACES, '_indices("algorithm subject_public_key")', '_indices("subject_public_key algorithm")', 0),
     ("python/src/derproved/_der.pyi", "class SignerInfo(Message): ...\n", "", 0),
     ("python/src/derproved/classes.h", "    der_attribute_at attribute;\n", "", 0),
     ("python/src/derproved/message.c", "A(signed_data, SignedData, 8, 1, true) ", "A(signed_data, SignedData, 7, 1, true) ", 0),

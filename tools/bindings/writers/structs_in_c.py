@@ -1,4 +1,4 @@
-"""The structs of c/include/der.h, and the calls that write them."""
+"""The structs of der.h, and the calls that write them."""
 
 from __future__ import annotations
 
@@ -77,42 +77,30 @@ def described(struct: Struct) -> str:
 
 
 def checked_calls(found: list[Struct]) -> list[str]:
-    """The calls that refuse a null pointer."""
-    lines = [f"DER_CHECKED({struct.name})" for struct in found]
-    return [*lines, "#undef DER_CHECKED", *[f"#define der_{it.name} der_checked_{it.name}" for it in found]]
+    """The calls that refuse a null pointer, by a macro of c/checked.c."""
+    return [f"CHECKED({struct.name}, {struct_in_c(struct)})" for struct in found]
+
+
+def in_lists(found: list[Struct]) -> list[Struct]:
+    """The structs with a written call that reads one message after another."""
+    return [struct for struct in found if struct.next and struct.next.is_written]
+
+
+def walking_calls(found: list[Struct]) -> list[str]:
+    """The calls that read one message after another, by a macro of c/walk.c."""
+    return [f"NEXT({struct.name}, {struct_in_c(struct)}, {len(struct.places)})" for struct in in_lists(found)]
 
 
 def next_calls(found: list[Struct]) -> list[str]:
-    """The calls that read one message after another."""
-    lines = []
-    for struct in found:
-        if struct.next and struct.next.is_written:
-            lines += [*next_call(struct), ""]
-    return lines[:-1]
+    """The declarations of these calls."""
+    return [line for struct in in_lists(found) for line in [*next_call(struct), ""]][:-1]
 
 
 def next_call(struct: Struct) -> list[str]:
     assert struct.next
     text = (
         f"Reads the {struct.noun} at the front of `left`, and moves `left` past it. The places count from the start of the octets. "
-        f"At first, `left` is {struct.next.left}. Returns 100 where `left` is not within the octets."
+        f"At first, `left` is {struct.next.left}. Returns 100 if `left` is not within the octets."
     )
     parameters = [*OCTETS, "der_place *left", f"{struct_in_c(struct)} *out", "der_fault *fault"]
-    moved = [f"    out->{field.name} = der_behind(before, out->{field.name});" for field in struct.places]
-    return [
-        *comment_in_c(text),
-        *call_in_c(f"DER_INLINE uint32_t {struct.next.name}(", parameters, ")"),
-        "{",
-        "    uint32_t before = left->offset, answer = der_check_left(octets, len, *left, fault);",
-        "    if (answer != 0)",
-        "        return answer;",
-        f"    answer = der_{struct.name}(octets + before, left->length, out, fault);",
-        "    if (answer != 0) {",
-        "        fault->position += fault->is_placed != 0 ? before : 0;",
-        "        return answer;",
-        "    }",
-        "    der_take(left, out->whole.length);",
-        *moved,
-        "    return 0;",
-        "}",
-    ]
+    return [*comment_in_c(text), *call_in_c(f"uint32_t {struct.next.name}(", parameters, ");")]

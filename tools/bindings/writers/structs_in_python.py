@@ -4,6 +4,7 @@ from __future__ import annotations
 
 from ..names import camel, struct_in_c
 from ..tables.structs import Struct
+from ..wrapping import WIDTH, wrapped
 
 
 def members(found: list[Struct]) -> list[str]:
@@ -45,10 +46,21 @@ def classes(found: list[Struct]) -> list[str]:
 
 
 def indices(found: list[Struct]) -> list[str]:
-    """A class for each struct, with the index of each of its places, and of each of its numbers."""
+    """A line for each struct, with the names of its places and of its numbers in their order."""
     lines = []
     for struct in found:
-        lines += ["", "", f"class {camel(struct.name)}:"]
-        for fields in (struct.places, struct.numbers):
-            lines += [f"    {field.name} = {index}" for index, field in enumerate(fields)]
-    return [*lines, "", ""]
+        texts = [" ".join(field.name for field in fields) for fields in (struct.places, struct.numbers) if fields]
+        head = f"{camel(struct.name)} = _indices("
+        line = f"{head}{', '.join(map(quoted, texts))})"
+        lines += [line] if len(line) <= WIDTH else [head, *[it for text in texts for it in argument(text)], ")"]
+    return lines
+
+
+def quoted(text: str) -> str:
+    return f'"{text}"'
+
+
+def argument(text: str) -> list[str]:
+    """A text as an argument, in as many lines as it takes."""
+    lines = wrapped(text, WIDTH - 8)
+    return [*[f"    {quoted(line + ' ')}" for line in lines[:-1]], f"    {quoted(lines[-1])},"]

@@ -24,6 +24,11 @@ def structs(found: list[Struct]) -> list[str]:
     return lines[:-1]
 
 
+def safe_calls(found: list[Struct]) -> list[str]:
+    """The calls over slices, by a macro of safe.rs."""
+    return [f"    {struct.name}: der_{struct.name} -> crate::{struct_in_rust(struct)}," for struct in found]
+
+
 def calls(found: list[Struct]) -> list[str]:
     """The declarations of the calls, within `extern "C"`."""
     lines = []

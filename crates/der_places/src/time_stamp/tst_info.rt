@@ -21,7 +21,7 @@ use der_extensions::extension::GeneralName;
 use der_fields::{DefaultFalse, DefaultOf, Explicit, Implicit};
 use der_numbers::IntRef;
 use der_pkix::certificate::Extensions;
-use der_time::GeneralizedTime;
+use der_simple::FractionalTimeRef;
 use der_time_stamp::time_stamp::{Accuracy, MessageImprint, TsaPolicyId, TstInfo, TstInfoVersion};
 
 /// Where the fields of a `TSTInfo` stand.
@@ -60,7 +60,7 @@ impl<'a> Placed for TstInfo<'a> {
         (field (⟦<TsaPolicyId<'a> as Form>⟧.accepts Der (fields_of.policy v))
         (field (⟦<MessageImprint<'a> as Form>⟧.accepts Der (fields_of.message_imprint v))
         (field (⟦<IntRef<'a> as Form>⟧.accepts Der (fields_of.serial_number v))
-        (field (⟦<GeneralizedTime as Form>⟧.accepts Der (fields_of.gen_time v))
+        (field (⟦<FractionalTimeRef<'a> as Form>⟧.accepts Der (fields_of.gen_time v))
         (optional (⟦<Accuracy as Form>⟧.accepts Der) (fields_of.accuracy v)
         (unless (is_default ⟦<DefaultFalse as DefaultOf<bool>>⟧.octets (⟦<bool as Form>⟧.encoding (fields_of.ordering v))) (⟦<bool as Form>⟧.accepts Der (fields_of.ordering v))
         (optional (⟦<IntRef<'a> as Form>⟧.accepts Der) (fields_of.nonce v)

@@ -6,6 +6,7 @@ use Rattle.der_ascii.specs.Characters.{parse_string}
 use Rattle.der_bits.specs.BitString.{parse_bit_string}
 use Rattle.der_constrained.specs.Alphabets.{characters, either_set, permitted}
 use Rattle.der_constrained.specs.Asn1.{ALLOWED, intersection, union}
+use Rattle.der_constrained.specs.Components.{size_in_components}
 use Rattle.der_constrained.specs.Integers.{range}
 use Rattle.der_constrained.specs.Sizes.{size_in_bits, size_in_characters, size_in_octets}
 use Rattle.der_elem.specs.Boolean.{boolean_contents, parse_boolean}
@@ -327,6 +328,27 @@ limited =
     CHOICE
     (ALLOWED (union (range (pos 0) (pos 49)) (range (pos 51) (pos 99))) INTEGER_u8)
     (IMPLICIT context 0 (ALLOWED (intersection (permitted (characters 97 102)) (size_in_octets 1 2)) VISIBLE_STRING))
+
+-- Few ::= SEQUENCE SIZE (1..3) OF INTEGER (0..9)
+abbrev pub few : Grammar
+few =
+    ALLOWED (size_in_components 1 3) (SEQUENCE_OF (ALLOWED (range (pos 0) (pos 9)) INTEGER_u8))
+
+-- Sizes ::= SEQUENCE {
+--     few        Few,
+--     pair       [0] SEQUENCE SIZE (2) OF ANY OPTIONAL,
+--     ordered    SET SIZE (0..2) OF BOOLEAN,
+--     unordered  [1] EXPLICIT SET SIZE (2 | 4..MAX) OF Status OPTIONAL,
+--     labels     SEQUENCE SIZE (2..MAX) OF Label OPTIONAL }
+abbrev pub sizes : Grammar
+sizes =
+    SEQUENCE
+    (field few
+    (OPTIONAL (IMPLICIT context 0 (ALLOWED (size_in_components 2 2) (SEQUENCE_OF ANY)))
+    (field (ALLOWED (size_in_components 0 2) (SET_OF BOOLEAN))
+    (OPTIONAL (EXPLICIT context 1 (ALLOWED (union (size_in_components 2 2) (size_in_components 4 4294967295)) (SET_OF_ANY_ORDER status)))
+    (OPTIONAL (ALLOWED (size_in_components 2 4294967295) (SEQUENCE_OF label))
+    end)))))
 
 -- Color ::= ENUMERATED { red(0), green(1), blue(2) }
 abbrev pub color : Grammar

@@ -13,7 +13,7 @@ use Rattle.der_opaque.specs.AnyForm.{parse_any}
 use Rattle.der_opaque.specs.ObjectIdentifierOctets.{parse_identifier}
 use Rattle.der_opaque.specs.Opaque.{parse_octets}
 use Rattle.der_pkix.specs.Certificate.Grammar.{algorithm_identifier, extensions}
-use Rattle.der_time.specs.TimeReading.{parse_generalized}
+use Rattle.der_simple.specs.FractionalTimes.{parse_fractional_time}
 use Rattle.der_tlv.specs.HeaderOctets.{tlv}
 use Rattle.der_tlv.specs.declared.tag.Tag.TheVariants as tags
 
@@ -23,8 +23,8 @@ ANY = any_of (λ t. true) parse_any
 abbrev pub BOOLEAN : Grammar
 BOOLEAN = one tags.Boolean parse_boolean
 
-abbrev pub GENERALIZED_TIME : Grammar
-GENERALIZED_TIME = one tags.GeneralizedTime parse_generalized
+abbrev pub FRACTIONAL_TIME : Grammar
+FRACTIONAL_TIME = one tags.GeneralizedTime parse_fractional_time
 
 abbrev pub INTEGER : Grammar
 INTEGER = one tags.Integer parse_integer
@@ -184,7 +184,7 @@ tst_info =
     (field tsa_policy_id
     (field message_imprint
     (field INTEGER
-    (field GENERALIZED_TIME
+    (field FRACTIONAL_TIME
     (OPTIONAL accuracy
     (DEFAULT (tlv tags.Boolean (boolean_contents false)) BOOLEAN
     (OPTIONAL INTEGER

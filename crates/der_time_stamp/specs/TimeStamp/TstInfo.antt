@@ -5,7 +5,7 @@ use Rattle.der_extensions.specs.declared.extension.general_name.GeneralName.{Gen
 use Rattle.der_numbers.specs.declared.int_ref.IntRef.{IntRef}
 use Rattle.der_opaque.specs.declared.object_identifier_ref.ObjectIdentifierRef.{ObjectIdentifierRef}
 use Rattle.der_pkix.specs.declared.certificate.extensions.Extensions.{Extensions}
-use Rattle.der_time.specs.declared.generalized_time.GeneralizedTime.{GeneralizedTime}
+use Rattle.der_simple.specs.declared.fractional_time.FractionalTimeRef.{FractionalTimeRef}
 use Rattle.der_time_stamp.specs.declared.time_stamp.accuracy.Accuracy.{Accuracy}
 use Rattle.der_time_stamp.specs.declared.time_stamp.message_imprint.MessageImprint.{MessageImprint}
 use Rattle.der_time_stamp.specs.declared.time_stamp.tst_info.TstInfo.{TstInfo}
@@ -27,7 +27,7 @@ abbrev pub serial_number : TstInfo → IntRef
 serial_number v = v.fields.list.rest.rest.rest.first
 
 -- genTime GeneralizedTime
-abbrev pub gen_time : TstInfo → GeneralizedTime
+abbrev pub gen_time : TstInfo → FractionalTimeRef
 gen_time v = v.fields.list.rest.rest.rest.rest.first
 
 -- accuracy Accuracy OPTIONAL

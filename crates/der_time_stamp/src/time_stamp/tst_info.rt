@@ -25,7 +25,7 @@ use der_fields::{
 use der_modules::{Member, copy_of, field_list, if_present, tagged};
 use der_numbers::IntRef;
 use der_pkix::certificate::Extensions;
-use der_time::GeneralizedTime;
+use der_simple::FractionalTimeRef;
 use der_tlv::{BackWriter, Error, Header, Length, Source, Writer};
 use std::alloc::Global;
 use std::cmp::Ordering;
@@ -37,7 +37,7 @@ type Fields<'a> = Fields8<
     TsaPolicyId<'a>,
     MessageImprint<'a>,
     IntRef<'a>,
-    GeneralizedTime,
+    FractionalTimeRef<'a>,
     Option<Accuracy>,
     WithDefault<bool, DefaultFalse>,
     Option<IntRef<'a>>,
@@ -74,7 +74,7 @@ impl<'a> TstInfo<'a> {
         policy: TsaPolicyId<'a>,
         message_imprint: &MessageImprint<'a>,
         serial_number: IntRef<'a>,
-        gen_time: GeneralizedTime,
+        gen_time: FractionalTimeRef<'a>,
         accuracy: Option<Accuracy>,
         ordering: bool,
         nonce: Option<IntRef<'a>>,
@@ -85,7 +85,7 @@ impl<'a> TstInfo<'a> {
         ensures policy { tst_info_fields.policy result ≡ policy.entry }
         ensures message_imprint { tst_info_fields.message_imprint result ≡ message_imprint.now }
         ensures serial_number { tst_info_fields.serial_number result ≡ serial_number.entry }
-        ensures gen_time { tst_info_fields.gen_time result ≡ gen_time }
+        ensures gen_time { tst_info_fields.gen_time result ≡ gen_time.entry }
         ensures accuracy { tst_info_fields.accuracy result ≡ accuracy }
         ensures ordering { tst_info_fields.ordering result ≡ ordering }
         ensures nonce { tst_info_fields.nonce result ≡ nonce.entry }
@@ -132,10 +132,10 @@ impl<'a> TstInfo<'a> {
     }
 
     /// `genTime`, `GeneralizedTime`.
-    pub fn gen_time(&self) -> GeneralizedTime
-        ensures { result ≡ tst_info_fields.gen_time self.now }
+    pub fn gen_time(&self) -> &FractionalTimeRef<'a>
+        ensures { result.now ≡ tst_info_fields.gen_time self.now }
     {
-        self.fields.list.rest.rest.rest.rest.first
+        &self.fields.list.rest.rest.rest.rest.first
     }
 
     /// `accuracy`, `Accuracy OPTIONAL`.
@@ -183,7 +183,7 @@ impl<'a> fmt::Debug for TstInfo<'a> {
             .field("policy", self.policy())
             .field("message_imprint", self.message_imprint())
             .field("serial_number", self.serial_number())
-            .field("gen_time", &self.gen_time())
+            .field("gen_time", self.gen_time())
             .field("accuracy", &self.accuracy())
             .field("ordering", &self.ordering())
             .field("nonce", &self.nonce())
@@ -246,7 +246,7 @@ impl<'a> Member for TstInfo<'a> {
         (field ⟦<TsaPolicyId<'a> as Member>⟧.member
         (field ⟦<MessageImprint<'a> as Member>⟧.member
         (field ⟦<IntRef<'a> as Member>⟧.member
-        (field ⟦<GeneralizedTime as Member>⟧.member
+        (field ⟦<FractionalTimeRef<'a> as Member>⟧.member
         (optional_field ⟦<Accuracy as Member>⟧.member
         (default_field ⟦<DefaultFalse as DefaultOf<bool>>⟧.octets ⟦<bool as Member>⟧.member
         (optional_field ⟦<IntRef<'a> as Member>⟧.member
@@ -275,7 +275,7 @@ pub fn octets_of_tst_info<'a>()
         ∷ (⟦<TsaPolicyId<'a> as Form>⟧.encoding (tst_info_fields.policy v))
         ∷ (⟦<MessageImprint<'a> as Form>⟧.encoding (tst_info_fields.message_imprint v))
         ∷ (⟦<IntRef<'a> as Form>⟧.encoding (tst_info_fields.serial_number v))
-        ∷ (⟦<GeneralizedTime as Form>⟧.encoding (tst_info_fields.gen_time v))
+        ∷ (⟦<FractionalTimeRef<'a> as Form>⟧.encoding (tst_info_fields.gen_time v))
         ∷ optional (λ x. (⟦<Accuracy as Form>⟧.encoding x)) (tst_info_fields.accuracy v)
         ∷ unless_default ⟦<DefaultFalse as DefaultOf<bool>>⟧.octets (⟦<bool as Form>⟧.encoding (tst_info_fields.ordering v))
         ∷ optional (λ x. (⟦<IntRef<'a> as Form>⟧.encoding x)) (tst_info_fields.nonce v)

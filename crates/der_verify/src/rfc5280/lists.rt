@@ -14,6 +14,11 @@ use super::repeated::list_repeats;
 use super::{has_criticality_of, has_repeated_one, is_empty_name};
 use crate::shown::{ShownTest, one_passes};
 use der_elem::Form;
+use der_extensions::extension::constants::{
+    ID_CE_CERTIFICATE_ISSUER, ID_CE_CRL_NUMBER, ID_CE_CRL_REASONS, ID_CE_DELTA_CRL_INDICATOR,
+    ID_CE_FRESHEST_CRL, ID_CE_INVALIDITY_DATE, ID_CE_ISSUING_DISTRIBUTION_POINT,
+    ID_PE_AUTHORITY_INFO_ACCESS,
+};
 use der_lists::ListRef;
 use der_pkix::AlgorithmIdentifier;
 use der_pkix::certificate::Extension;
@@ -190,12 +195,15 @@ impl ListRule {
         ensures { seen_forbidden result ≡ forbidden_of_list self }
     {
         match self {
-            ListRule::CrlNumberIsNotCritical => Some((&[0x55, 0x1d, 0x14], true)),
-            ListRule::DeltaCrlIndicatorIsCritical => Some((&[0x55, 0x1d, 0x1b], false)),
-            ListRule::IssuingDistributionPointIsCritical => Some((&[0x55, 0x1d, 0x1c], false)),
-            ListRule::FreshestCrlIsNotCritical => Some((&[0x55, 0x1d, 0x2e], true)),
+            ListRule::CrlNumberIsNotCritical => Some((&ID_CE_CRL_NUMBER, true)),
+            ListRule::DeltaCrlIndicatorIsCritical => Some((&ID_CE_DELTA_CRL_INDICATOR, false)),
+            ListRule::IssuingDistributionPointIsCritical => Some((
+                &ID_CE_ISSUING_DISTRIBUTION_POINT,
+                false,
+            )),
+            ListRule::FreshestCrlIsNotCritical => Some((&ID_CE_FRESHEST_CRL, true)),
             ListRule::AuthorityInfoAccessIsNotCritical => {
-                Some((&[0x2b, 0x06, 0x01, 0x05, 0x05, 0x07, 0x01, 0x01], true))
+                Some((&ID_PE_AUTHORITY_INFO_ACCESS, true))
             }
             _ => None,
         }
@@ -206,9 +214,9 @@ impl ListRule {
         ensures { seen_forbidden result ≡ forbidden_of_entry self }
     {
         match self {
-            ListRule::ReasonCodeIsNotCritical => Some((&[0x55, 0x1d, 0x15], true)),
-            ListRule::InvalidityDateIsNotCritical => Some((&[0x55, 0x1d, 0x18], true)),
-            ListRule::CertificateIssuerIsCritical => Some((&[0x55, 0x1d, 0x1d], false)),
+            ListRule::ReasonCodeIsNotCritical => Some((&ID_CE_CRL_REASONS, true)),
+            ListRule::InvalidityDateIsNotCritical => Some((&ID_CE_INVALIDITY_DATE, true)),
+            ListRule::CertificateIssuerIsCritical => Some((&ID_CE_CERTIFICATE_ISSUER, false)),
             _ => None,
         }
     }

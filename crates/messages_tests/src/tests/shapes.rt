@@ -12,6 +12,7 @@ mod reading;
 mod recursion;
 mod refusing;
 mod simple;
+mod sizes;
 mod times;
 
 use crate::tests::numbered;

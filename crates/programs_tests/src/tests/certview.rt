@@ -6,6 +6,7 @@ mod dsa;
 mod encoding_rules;
 mod extensions;
 mod faults;
+mod field_names;
 mod irregular;
 mod key_files;
 mod kinds;

@@ -58,7 +58,7 @@ fn info_told(
                 Some(accuracy) => (accuracy.seconds(), accuracy.millis(), accuracy.micros()),
                 None => (None, None, None),
             };
-            let year = info.gen_time().to_date_time().year();
+            let year = info.gen_time().seconds().to_date_time().year();
             let rest = (
                 info.ordering(),
                 info.tsa().is_some(),

@@ -25,7 +25,7 @@ pub(super) const INFO: &str =
     "30818002010106042a0304013031300d060960864801650304020105000420f55f97cfa0dd5f18c1ac07d2c361b198f19fd8522032faae0451a1500f1c5f50020101180f32303236313132373136303430395a300a020101800201f48101640101ff02086d0e23859abc73eea015a4133011310f300d06035504030c067374616d7073";
 
 /// What is read and written back, and of which each beginning is refused.
-pub(super) const WRITTEN: [(Message, &str); 6] = [
+pub(super) const WRITTEN: [(Message, &str); 7] = [
     (Message::TimeStampReq, NONCE),
     (Message::TimeStampReq, POLICY),
     (Message::TimeStampResp, STAMP),
@@ -36,14 +36,19 @@ pub(super) const WRITTEN: [(Message, &str); 6] = [
         Message::TstInfo,
         "303302010106032a03303015300706052b0e03021a040a00010203040506070809020105180f32303236313132373136303430395a",
     ),
-];
-
-/// What is refused, and the number of its first fault.
-pub(super) const REFUSED: [(Message, &str, u8); 1] = [
     // a time with a fraction of a second, 20261127162212.423Z: the authority has clock_precision_digits
     (
         Message::TstInfo,
         "30818402010106042a0304013031300d060960864801650304020105000420f55f97cfa0dd5f18c1ac07d2c361b198f19fd8522032faae0451a1500f1c5f50020103181332303236313132373136323231322e3432335a300a020101800201f48101640101ff02086d0e23859abc73eea015a4133011310f300d06035504030c067374616d7073",
+    ),
+];
+
+/// What is refused, and the number of its first fault.
+pub(super) const REFUSED: [(Message, &str, u8); 1] = [
+    // a time with a fraction of a second whose last digit is 0, 20261127162212.420Z
+    (
+        Message::TstInfo,
+        "30818402010106042a0304013031300d060960864801650304020105000420f55f97cfa0dd5f18c1ac07d2c361b198f19fd8522032faae0451a1500f1c5f50020103181332303236313132373136323231322e3432305a300a020101800201f48101640101ff02086d0e23859abc73eea015a4133011310f300d06035504030c067374616d7073",
         13,
     ),
 ];

@@ -3,7 +3,7 @@
 use crate::tests::certview::messages::{CURVE_PRIVATE, ED25519, ED25519_PUBLIC};
 use crate::tests::certview::{assert_contains, written, written_so};
 use base64::engine::general_purpose::STANDARD;
-use certview_text::{Fault, Label, Outcome, View};
+use certview_text::{Asked, Fault, Label, Outcome, View};
 use std::alloc::Global;
 use std::test::Fail;
 
@@ -85,7 +85,10 @@ fn names_the_input_and_shows_a_fingerprint(rt: HostRuntime) -> Result<(), Fail> 
     let octets = hex::decode(rt.alloc(), ED25519_PUBLIC)?;
     let view = View {
         name: Some("a\u{202e}b"),
-        has_fingerprint: true,
+        asked: Asked {
+            has_fingerprint: true,
+            ..Asked::nothing()
+        },
         ..View::plain()
     };
     let (result, written) = written_so(rt.alloc(), &view, octets.as_slice());

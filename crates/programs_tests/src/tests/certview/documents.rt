@@ -2,7 +2,7 @@
 
 use crate::tests::certview::messages::{ED25519, ED25519_PUBLIC};
 use crate::tests::certview::{assert_contains, written_so};
-use certview_text::{Asked, Fault, Form, Outcome, View, show, show_refused};
+use certview_text::{Asked, Fault, FieldName, Form, Outcome, View, show, show_refused};
 use der_asn1_types::DateTime;
 use std::test::Fail;
 
@@ -33,11 +33,12 @@ fn writes_a_document(rt: HostRuntime) -> Result<(), Fail> {
 #[test]
 fn shows_some_fields_and_a_moment(rt: HostRuntime) -> Result<(), Fail> {
     let octets = hex::decode(rt.alloc(), ED25519)?;
-    let names = ["not-after", "at"];
+    let fields = [FieldName::NotAfter, FieldName::At];
     let view = View {
-        fields: Some(names.as_slice()),
+        fields: Some(fields.as_slice()),
         asked: Asked {
             has_rules: true,
+            has_fingerprint: false,
             moment: Some("2081-08-26T04:38:19Z".parse::<DateTime>()?),
         },
         ..View::plain()

@@ -3,7 +3,7 @@
 use crate::tests::certview::blocks::block;
 use crate::tests::certview::messages::ED25519;
 use crate::tests::certview::{assert_contains, written, written_so};
-use certview_text::{Fault, Outcome, View};
+use certview_text::{Asked, Fault, Outcome, View};
 use std::test::Fail;
 
 /// For what the certificate is trusted, for what it is not, its name, an identifier and another setting.
@@ -31,7 +31,10 @@ fn shows_the_settings_behind_a_certificate(rt: HostRuntime) -> Result<(), Fail> 
 #[test]
 fn shows_a_certificate_alone(rt: HostRuntime) -> Result<(), Fail> {
     let view = View {
-        has_fingerprint: true,
+        asked: Asked {
+            has_fingerprint: true,
+            ..Asked::nothing()
+        },
         ..View::plain()
     };
     let octets = hex::decode(rt.alloc(), ED25519)?;

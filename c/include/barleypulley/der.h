@@ -1,0 +1,556 @@
+/* DER of certificates, certificate revocation lists, keys, requests, OCSP responses and signed messages, by proved code.
+ * The calls accept exactly the octets of the grammar, and return the place of each field, the rules of RFC 5280 that are
+ * broken, and the canonical encoding of a value.
+ *
+ * A call reads octets that the caller owns, and keeps no pointer to them. It shares no state, takes no lock and always
+ * returns. Its results are numbers, so nothing has to be freed. Calls may run on several threads at once.
+ *
+ * A call that reads returns 0, or the number of the first fault of the octets. If it returns 0 it writes `out`, and `fault`
+ * is unchanged; else it writes `fault`, and `out` is unchanged. `fault` may be NULL in every call.
+ *
+ * No compiler checks what a caller owes:
+ *   - A pointer with a length points to so many octets, and nothing writes them during the call. A null pointer with length
+ *     0 stands for no octets; with another length it is refused (101).
+ *   - `out`, `fault`, a buffer and the octets do not overlap. `out` and `fault` are aligned as their types are.
+ *   - der_canonical is not called from a signal handler, or in a process that was forked from one with threads: it takes
+ *     memory from malloc, and gives it back. No other call takes memory.
+ */
+#ifndef BARLEYPULLEY_DER_H
+#define BARLEYPULLEY_DER_H
+#include <assert.h>
+#include <stddef.h>
+#include <stdint.h>
+#ifdef __cplusplus
+extern "C" {
+#endif
+
+/* A compiler that lays out a struct in another way than the library is stopped, also before C11 and C++11. */
+#if (defined(__STDC_VERSION__) && __STDC_VERSION__ >= 201112L) || (defined(__cplusplus) && __cplusplus >= 201103L)
+#define DER_ASSERT(condition, words) static_assert(condition, words)
+#else
+#define DER_ASSERT(condition, words) extern char der_assertion[(condition) ? 1 : -1]
+#endif
+
+/* The version of the interface: it changes with a struct, a number or a promise of this file. One promise is which octets
+ * are accepted. */
+#define DER_ABI_VERSION 2
+
+/* The numbers of faults. 1 to 17 are faults of the octets, and 100 and more are faults of a call. A number never changes
+ * its meaning. */
+enum der_number {
+    DER_OK = 0,
+    DER_MEMORY = 1,             /* memory ran out, in der_canonical */
+    DER_INCOMPLETE = 2,         /* the octets end too soon */
+    DER_TRAILING_DATA = 3,      /* octets are left over after a value */
+    DER_TAG_UNEXPECTED = 4,     /* another tag stands there than may stand there */
+    DER_TAG_UNKNOWN = 5,        /* no tag that is known */
+    DER_TAG_NUMBER_INVALID = 6, /* a tag number that is out of range or not in its shortest form */
+    DER_LENGTH = 7,             /* contents of a length that the type does not have */
+    DER_NONCANONICAL = 8,       /* an encoding of the value that is not the one of DER */
+    DER_OVERFLOW = 9,           /* more octets than 4294967295 */
+    DER_OVERLENGTH = 10,        /* a length that is too great or not in its shortest form */
+    DER_SET_ORDERING = 11,      /* items of a set that are not in order */
+    DER_UTF8 = 12,              /* octets that are no UTF-8 */
+    DER_VALUE = 13,             /* contents that stand for no value of the type */
+    DER_DATE_TIME = 14,         /* no date or time */
+    DER_OID_MALFORMED = 15,     /* no object identifier */
+    DER_INDEFINITE_LENGTH = 16, /* an indefinite length */
+    DER_FAILED = 17,            /* refused before */
+    DER_BAD_PLACE = 100,        /* a place that is not within the octets */
+    DER_NULL_POINTER = 101,     /* a null pointer with a length that is not 0 */
+    DER_UNKNOWN_NAME = 102,     /* no type has the name */
+    DER_SHORT_BUFFER = 103      /* a buffer that is too short for what is written */
+};
+
+/* written by tools/bindings: rules */
+/* The rules of RFC 5280 for certificates beyond the grammar, as bits of what der_check_rfc5280 writes: a bit is 1
+ * where the certificate breaks the rule. */
+enum der_certificate_rule {
+    /* the algorithm within is the one outside (4.1.1.2, 4.1.2.3) */
+    DER_CERTIFICATE_ALGORITHMS_AGREE = 1 << 0,
+    /* extensions stand in version 3 alone (4.1.2.1) */
+    DER_CERTIFICATE_EXTENSIONS_IN_VERSION_3 = 1 << 1,
+    /* the serial number is positive (4.1.2.2) */
+    DER_CERTIFICATE_SERIAL_NUMBER_POSITIVE = 1 << 2,
+    /* the serial number has at most 20 octets (4.1.2.2) */
+    DER_CERTIFICATE_SERIAL_NUMBER_AT_MOST_20_OCTETS = 1 << 3,
+    /* the issuer is not empty (4.1.2.4) */
+    DER_CERTIFICATE_ISSUER_NOT_EMPTY = 1 << 4,
+    /* beside an empty subject stands a subjectAltName that is critical (4.1.2.6) */
+    DER_CERTIFICATE_EMPTY_SUBJECT_HAS_CRITICAL_ALT_NAME = 1 << 5,
+    /* unique identifiers stand in version 2 and 3 alone (4.1.2.8) */
+    DER_CERTIFICATE_UNIQUE_IDENTIFIERS_IN_VERSION_2 = 1 << 6,
+    /* each extension stands once (4.2) */
+    DER_CERTIFICATE_EXTENSIONS_STAND_ONCE = 1 << 7,
+    /* authorityKeyIdentifier is not critical (4.2.1.1) */
+    DER_CERTIFICATE_AUTHORITY_KEY_IDENTIFIER_NOT_CRITICAL = 1 << 8,
+    /* subjectKeyIdentifier is not critical (4.2.1.2) */
+    DER_CERTIFICATE_SUBJECT_KEY_IDENTIFIER_NOT_CRITICAL = 1 << 9,
+    /* subjectDirectoryAttributes is not critical (4.2.1.8) */
+    DER_CERTIFICATE_SUBJECT_DIRECTORY_ATTRIBUTES_NOT_CRITICAL = 1 << 10,
+    /* freshestCRL is not critical (4.2.1.15) */
+    DER_CERTIFICATE_FRESHEST_CRL_NOT_CRITICAL = 1 << 11,
+    /* authorityInfoAccess is not critical (4.2.2.1) */
+    DER_CERTIFICATE_AUTHORITY_INFO_ACCESS_NOT_CRITICAL = 1 << 12,
+    /* subjectInfoAccess is not critical (4.2.2.2) */
+    DER_CERTIFICATE_SUBJECT_INFO_ACCESS_NOT_CRITICAL = 1 << 13,
+    /* basicConstraints of a CA is critical (4.2.1.9) */
+    DER_CERTIFICATE_BASIC_CONSTRAINTS_OF_CA_CRITICAL = 1 << 14,
+    /* nameConstraints is critical (4.2.1.10) */
+    DER_CERTIFICATE_NAME_CONSTRAINTS_CRITICAL = 1 << 15,
+    /* policyConstraints is critical (4.2.1.11) */
+    DER_CERTIFICATE_POLICY_CONSTRAINTS_CRITICAL = 1 << 16,
+    /* inhibitAnyPolicy is critical (4.2.1.14) */
+    DER_CERTIFICATE_INHIBIT_ANY_POLICY_CRITICAL = 1 << 17
+};
+
+/* The same for lists of revoked certificates, as bits of what der_check_rfc5280_list writes. */
+enum der_list_rule {
+    /* the algorithm within is the one outside (5.1.1.2, 5.1.2.2) */
+    DER_LIST_ALGORITHMS_AGREE = 1 << 0,
+    /* extensions, of the list or of an entry, stand in version 2 alone (5.1.2.1) */
+    DER_LIST_EXTENSIONS_IN_VERSION_2 = 1 << 1,
+    /* the issuer is not empty (5.1.2.3) */
+    DER_LIST_ISSUER_NOT_EMPTY = 1 << 2,
+    /* nextUpdate is there (5.1.2.5) */
+    DER_LIST_NEXT_UPDATE_THERE = 1 << 3,
+    /* a list of no revoked certificates is absent (5.1.2.6) */
+    DER_LIST_EMPTY_LIST_ABSENT = 1 << 4,
+    /* each extension of the list stands once (5.2, 4.2) */
+    DER_LIST_EXTENSIONS_STAND_ONCE = 1 << 5,
+    /* cRLNumber is not critical (5.2.3) */
+    DER_LIST_CRL_NUMBER_NOT_CRITICAL = 1 << 6,
+    /* deltaCRLIndicator is critical (5.2.4) */
+    DER_LIST_DELTA_CRL_INDICATOR_CRITICAL = 1 << 7,
+    /* issuingDistributionPoint is critical (5.2.5) */
+    DER_LIST_ISSUING_DISTRIBUTION_POINT_CRITICAL = 1 << 8,
+    /* freshestCRL is not critical (5.2.6) */
+    DER_LIST_FRESHEST_CRL_NOT_CRITICAL = 1 << 9,
+    /* authorityInfoAccess is not critical (5.2.7) */
+    DER_LIST_AUTHORITY_INFO_ACCESS_NOT_CRITICAL = 1 << 10,
+    /* reasonCode of an entry is not critical (5.3.1) */
+    DER_LIST_REASON_CODE_NOT_CRITICAL = 1 << 11,
+    /* invalidityDate of an entry is not critical (5.3.2) */
+    DER_LIST_INVALIDITY_DATE_NOT_CRITICAL = 1 << 12,
+    /* certificateIssuer of an entry is critical (5.3.3) */
+    DER_LIST_CERTIFICATE_ISSUER_CRITICAL = 1 << 13
+};
+/* end of rules */
+
+/* The place of an encoding: its identifier octets, length octets and contents octets. An absent field has length 0, at the
+ * offset where it would stand. */
+typedef struct der_place {
+    uint32_t offset; /* the number of octets before it */
+    uint32_t length; /* its number of octets */
+} der_place;
+
+/* Why and where octets are refused. */
+typedef struct der_fault {
+    uint32_t number;    /* the result of the call */
+    uint32_t is_placed; /* 1 if the position is known, else 0 */
+    uint32_t position;  /* the number of octets that had been read, of those that were passed */
+} der_fault;
+
+/* written by tools/bindings: structs */
+/* Places in a certificate (Certificate, RFC 5280 4.1) */
+typedef struct der_certificate_at {
+    der_place tbs_certificate;     /* what the signature covers */
+    der_place signature_algorithm; /* an AlgorithmIdentifier */
+    der_place signature_value;     /* a BIT STRING */
+
+    /* the fields of tbsCertificate */
+    der_place version;                 /* with its explicit tag [0]; absent where it is the default, v1 */
+    der_place serial_number;           /* an INTEGER */
+    der_place signature;               /* an AlgorithmIdentifier */
+    der_place issuer;                  /* a Name */
+    der_place validity;                /* a SEQUENCE of both dates */
+    der_place subject;                 /* a Name */
+    der_place subject_public_key_info; /* a SubjectPublicKeyInfo */
+    der_place issuer_unique_id;        /* with its implicit tag [1] */
+    der_place subject_unique_id;       /* with its implicit tag [2] */
+    der_place extensions;              /* with their explicit tag [3] */
+
+    uint64_t not_before;     /* in seconds from 1970-01-01T00:00:00Z, with no leap seconds; an earlier date is refused (13) */
+    uint64_t not_after;      /* the last second in which the certificate is valid; a date before 1970 is refused (13) */
+    uint64_t version_number; /* 0 for v1, 1 for v2, 2 for v3; numbers up to 255 are accepted */
+} der_certificate_at;
+
+/* Places in an extension (Extension, RFC 5280 4.2) */
+typedef struct der_extension_at {
+    der_place whole;      /* the whole extension; the next one begins after it */
+    der_place extn_id;    /* an OBJECT IDENTIFIER */
+    der_place critical;   /* a BOOLEAN; absent where it is the default, FALSE */
+    der_place extn_value; /* an OCTET STRING */
+
+    uint32_t is_critical; /* 1 or 0 */
+} der_extension_at;
+
+/* Places in a list of revoked certificates (CertificateList, RFC 5280 5.1) */
+typedef struct der_certificate_list_at {
+    der_place tbs_cert_list;       /* what the signature covers */
+    der_place signature_algorithm; /* an AlgorithmIdentifier */
+    der_place signature_value;     /* a BIT STRING */
+
+    /* the fields of tbsCertList */
+    der_place version;              /* an INTEGER */
+    der_place signature;            /* an AlgorithmIdentifier */
+    der_place issuer;               /* a Name */
+    der_place this_update;          /* a Time */
+    der_place next_update;          /* a Time */
+    der_place revoked_certificates; /* a SEQUENCE OF */
+    der_place crl_extensions;       /* with their explicit tag [0] */
+
+    uint64_t this_update_seconds; /* in seconds from 1970-01-01T00:00:00Z; an earlier date is refused (13) */
+    uint64_t next_update_seconds; /* in such seconds, 0 if the field is absent; a date before 1970 is refused (13) */
+    uint64_t version_number;      /* 0 for v1, where the field is absent; 1 for v2; numbers up to 255 are accepted */
+} der_certificate_list_at;
+
+/* Places in an entry of a list of revoked certificates (RevokedCertificate, RFC 5280 5.1.2.6) */
+typedef struct der_revoked_certificate_at {
+    der_place whole;                /* the whole entry; the next one begins after it */
+    der_place user_certificate;     /* an INTEGER */
+    der_place revocation_date;      /* a Time */
+    der_place crl_entry_extensions; /* a SEQUENCE OF */
+
+    uint64_t revocation_date_seconds; /* in seconds from 1970-01-01T00:00:00Z; an earlier date is refused (13) */
+} der_revoked_certificate_at;
+
+/* Places in a public key (SubjectPublicKeyInfo, RFC 5280 4.1.2.7) */
+typedef struct der_subject_public_key_info_at {
+    der_place algorithm;          /* an AlgorithmIdentifier */
+    der_place subject_public_key; /* a BIT STRING */
+} der_subject_public_key_info_at;
+
+/* Places in a private key (PrivateKeyInfo, RFC 5958 section 2) */
+typedef struct der_private_key_info_at {
+    der_place version;               /* an INTEGER */
+    der_place private_key_algorithm; /* an AlgorithmIdentifier */
+    der_place private_key;           /* an OCTET STRING */
+    der_place attributes;            /* with their implicit tag [0] */
+    der_place public_key;            /* with its implicit tag [1] */
+
+    uint64_t version_number; /* 0 for v1, 1 for v2 */
+} der_private_key_info_at;
+
+/* Places in a request for a certificate (CertificationRequest, RFC 2986 4.2) */
+typedef struct der_certification_request_at {
+    der_place certification_request_info; /* what the signature covers */
+    der_place signature_algorithm;        /* an AlgorithmIdentifier */
+    der_place signature;                  /* a BIT STRING */
+
+    /* the fields of certificationRequestInfo */
+    der_place version;         /* an INTEGER, which is 0 */
+    der_place subject;         /* a Name */
+    der_place subject_pk_info; /* a SubjectPublicKeyInfo */
+    der_place attributes;      /* with their implicit tag [0] */
+} der_certification_request_at;
+
+/* Places in an OCSP response (OCSPResponse, RFC 6960 4.2.1) */
+typedef struct der_ocsp_response_at {
+    der_place response_status; /* an ENUMERATED */
+    der_place response_bytes;  /* with their explicit tag [0] */
+
+    /* the fields of responseBytes */
+    der_place response_type; /* an OBJECT IDENTIFIER */
+    der_place response;      /* an OCTET STRING; if responseType is id-pkix-ocsp-basic, a BasicOCSPResponse is to be read from its contents octets */
+
+    int64_t response_status_number; /* 0 for successful, 1 to 3, 5 or 6 */
+} der_ocsp_response_at;
+
+/* Places in a signed OCSP response (BasicOCSPResponse, RFC 6960 4.2.1) */
+typedef struct der_basic_ocsp_response_at {
+    der_place tbs_response_data;   /* what the signature covers */
+    der_place signature_algorithm; /* an AlgorithmIdentifier */
+    der_place signature;           /* a BIT STRING */
+    der_place certs;               /* with their explicit tag [0] */
+
+    /* the fields of tbsResponseData */
+    der_place version;             /* with its explicit tag [0]; absent where it is the default, v1 */
+    der_place responder_id;        /* a CHOICE: with the explicit tag [1] a Name, with the explicit tag [2] an OCTET STRING */
+    der_place produced_at;         /* a GeneralizedTime */
+    der_place responses;           /* a SEQUENCE OF SingleResponse */
+    der_place response_extensions; /* with their explicit tag [1] */
+
+    uint64_t produced_at_seconds; /* in seconds from 1970-01-01T00:00:00Z; an earlier date is refused (13) */
+} der_basic_ocsp_response_at;
+
+/* Places in a response about one certificate (SingleResponse, RFC 6960 4.2.1) */
+typedef struct der_single_response_at {
+    der_place whole;             /* the whole response; the next one begins after it */
+    der_place cert_id;           /* a CertID */
+    der_place cert_status;       /* a CHOICE: with its implicit tag [0], [1] or [2] */
+    der_place this_update;       /* a GeneralizedTime */
+    der_place next_update;       /* with its explicit tag [0] */
+    der_place single_extensions; /* with their explicit tag [1] */
+
+    uint64_t this_update_seconds;     /* in seconds from 1970-01-01T00:00:00Z; an earlier date is refused (13) */
+    uint64_t next_update_seconds;     /* in such seconds, 0 if the field is absent; a date before 1970 is refused (13) */
+    uint64_t revocation_time_seconds; /* in such seconds, 0 if it is not revoked; a date before 1970 is refused (13) */
+    uint64_t cert_status_number;      /* 0 for good, 1 for revoked, 2 for unknown */
+} der_single_response_at;
+
+/* Places in a message with its type (ContentInfo, RFC 5652 section 3) */
+typedef struct der_content_info_at {
+    der_place content_type; /* an OBJECT IDENTIFIER */
+    der_place content;      /* with its explicit tag [0]; if contentType is id-signedData, a SignedData is to be read from its contents octets */
+} der_content_info_at;
+
+/* Places in a signed message (SignedData, RFC 5652 5.1) */
+typedef struct der_signed_data_at {
+    der_place version;            /* an INTEGER */
+    der_place digest_algorithms;  /* a SET OF AlgorithmIdentifier */
+    der_place encap_content_info; /* a SEQUENCE */
+    der_place certificates;       /* with their implicit tag [0] */
+    der_place crls;               /* with their implicit tag [1] */
+    der_place signer_infos;       /* a SET OF SignerInfo */
+
+    /* the fields of encapContentInfo */
+    der_place e_content_type; /* an OBJECT IDENTIFIER */
+    der_place e_content;      /* an OCTET STRING with its explicit tag [0] */
+
+    uint64_t version_number; /* 0 to 5 */
+} der_signed_data_at;
+
+/* Places in a signer (SignerInfo, RFC 5652 5.3) */
+typedef struct der_signer_info_at {
+    der_place whole;               /* the whole signer; the next one begins after it */
+    der_place version;             /* an INTEGER */
+    der_place sid;                 /* a CHOICE: a SEQUENCE of issuer and serial number, or with its implicit tag [0] a key's identifier */
+    der_place digest_algorithm;    /* an AlgorithmIdentifier */
+    der_place signed_attrs;        /* with their implicit tag [0] */
+    der_place signature_algorithm; /* an AlgorithmIdentifier */
+    der_place signature;           /* an OCTET STRING */
+    der_place unsigned_attrs;      /* with their implicit tag [1] */
+
+    uint64_t version_number; /* 0 to 5 */
+} der_signer_info_at;
+
+/* Places in an attribute of a name (AttributeTypeAndValue, RFC 5280 4.1.2.4) */
+typedef struct der_attribute_type_and_value_at {
+    der_place whole; /* the whole attribute; the next one of the same part begins after it */
+    der_place type;  /* an OBJECT IDENTIFIER */
+    der_place value; /* of any type */
+} der_attribute_type_and_value_at;
+
+/* Places in an attribute of a signer, a request or a private key (Attribute, RFC 5652 5.3, RFC 2986 4.1, RFC 5958
+ * section 2) */
+typedef struct der_attribute_at {
+    der_place whole;  /* the whole attribute; the next one begins after it */
+    der_place type;   /* an OBJECT IDENTIFIER */
+    der_place values; /* a SET OF */
+} der_attribute_at;
+
+DER_ASSERT(sizeof(der_certificate_at) == 128, "13 places and 3 numbers of 64 bits");
+DER_ASSERT(offsetof(der_certificate_at, version) == 24, "after 3 places");
+DER_ASSERT(offsetof(der_certificate_at, not_before) == 104, "after 13 places");
+DER_ASSERT(sizeof(der_extension_at) == 36, "4 places and 1 number of 32 bits");
+DER_ASSERT(offsetof(der_extension_at, extn_id) == 8, "after 1 place");
+DER_ASSERT(offsetof(der_extension_at, is_critical) == 32, "after 4 places");
+DER_ASSERT(sizeof(der_certificate_list_at) == 104, "10 places and 3 numbers of 64 bits");
+DER_ASSERT(offsetof(der_certificate_list_at, version) == 24, "after 3 places");
+DER_ASSERT(offsetof(der_certificate_list_at, this_update_seconds) == 80, "after 10 places");
+DER_ASSERT(sizeof(der_revoked_certificate_at) == 40, "4 places and 1 number of 64 bits");
+DER_ASSERT(offsetof(der_revoked_certificate_at, user_certificate) == 8, "after 1 place");
+DER_ASSERT(offsetof(der_revoked_certificate_at, revocation_date_seconds) == 32, "after 4 places");
+DER_ASSERT(sizeof(der_subject_public_key_info_at) == 16, "2 places");
+DER_ASSERT(sizeof(der_private_key_info_at) == 48, "5 places and 1 number of 64 bits");
+DER_ASSERT(offsetof(der_private_key_info_at, version_number) == 40, "after 5 places");
+DER_ASSERT(sizeof(der_certification_request_at) == 56, "7 places");
+DER_ASSERT(offsetof(der_certification_request_at, version) == 24, "after 3 places");
+DER_ASSERT(sizeof(der_ocsp_response_at) == 40, "4 places and 1 number of 64 bits");
+DER_ASSERT(offsetof(der_ocsp_response_at, response_type) == 16, "after 2 places");
+DER_ASSERT(offsetof(der_ocsp_response_at, response_status_number) == 32, "after 4 places");
+DER_ASSERT(sizeof(der_basic_ocsp_response_at) == 80, "9 places and 1 number of 64 bits");
+DER_ASSERT(offsetof(der_basic_ocsp_response_at, version) == 32, "after 4 places");
+DER_ASSERT(offsetof(der_basic_ocsp_response_at, produced_at_seconds) == 72, "after 9 places");
+DER_ASSERT(sizeof(der_single_response_at) == 80, "6 places and 4 numbers of 64 bits");
+DER_ASSERT(offsetof(der_single_response_at, cert_id) == 8, "after 1 place");
+DER_ASSERT(offsetof(der_single_response_at, this_update_seconds) == 48, "after 6 places");
+DER_ASSERT(sizeof(der_content_info_at) == 16, "2 places");
+DER_ASSERT(sizeof(der_signed_data_at) == 72, "8 places and 1 number of 64 bits");
+DER_ASSERT(offsetof(der_signed_data_at, e_content_type) == 48, "after 6 places");
+DER_ASSERT(offsetof(der_signed_data_at, version_number) == 64, "after 8 places");
+DER_ASSERT(sizeof(der_signer_info_at) == 72, "8 places and 1 number of 64 bits");
+DER_ASSERT(offsetof(der_signer_info_at, version) == 8, "after 1 place");
+DER_ASSERT(offsetof(der_signer_info_at, version_number) == 64, "after 8 places");
+DER_ASSERT(sizeof(der_attribute_type_and_value_at) == 24, "3 places");
+DER_ASSERT(offsetof(der_attribute_type_and_value_at, type) == 8, "after 1 place");
+DER_ASSERT(sizeof(der_attribute_at) == 24, "3 places");
+DER_ASSERT(offsetof(der_attribute_at, type) == 8, "after 1 place");
+/* end of structs */
+
+/* Returns DER_ABI_VERSION of the library that was linked. */
+uint32_t der_abi_version(void);
+
+/* Returns the meaning of a number in English, a text that is never freed; "no such number" for another number. */
+const char *der_number_text(uint32_t number);
+
+/* written by tools/bindings: calls */
+/* Reads all octets as a certificate (Certificate, RFC 5280 4.1). No signature is verified, and nothing that RFC 5280
+ * asks beyond the grammar. */
+uint32_t der_certificate(const uint8_t *octets, size_t len, der_certificate_at *out, der_fault *fault);
+
+/* Reads the extension at the front of the octets (Extension, RFC 5280 4.2). Its places count from there. */
+uint32_t der_extension(const uint8_t *octets, size_t len, der_extension_at *out, der_fault *fault);
+
+/* Reads all octets as a list of revoked certificates (CertificateList, RFC 5280 5.1). */
+uint32_t der_certificate_list(const uint8_t *octets, size_t len, der_certificate_list_at *out, der_fault *fault);
+
+/* Reads the entry of a list of revoked certificates at the front of the octets (RevokedCertificate, RFC 5280
+ * 5.1.2.6). Its places count from there. */
+uint32_t der_revoked_certificate(const uint8_t *octets, size_t len, der_revoked_certificate_at *out, der_fault *fault);
+
+/* Reads all octets as a public key (SubjectPublicKeyInfo, RFC 5280 4.1.2.7). */
+uint32_t der_subject_public_key_info(const uint8_t *octets, size_t len, der_subject_public_key_info_at *out,
+                                     der_fault *fault);
+
+/* Reads all octets as a private key (PrivateKeyInfo, RFC 5958 section 2). A PrivateKeyInfo is a OneAsymmetricKey.
+ * The key itself is not read. */
+uint32_t der_private_key_info(const uint8_t *octets, size_t len, der_private_key_info_at *out, der_fault *fault);
+
+/* Reads all octets as a request for a certificate (CertificationRequest, RFC 2986 4.2). */
+uint32_t der_certification_request(const uint8_t *octets, size_t len, der_certification_request_at *out,
+                                   der_fault *fault);
+
+/* Reads all octets as an OCSP response (OCSPResponse, RFC 6960 4.2.1). What stands in `response` is not read
+ * further. */
+uint32_t der_ocsp_response(const uint8_t *octets, size_t len, der_ocsp_response_at *out, der_fault *fault);
+
+/* Reads all octets as a signed OCSP response (BasicOCSPResponse, RFC 6960 4.2.1). The octets are the contents octets
+ * of `response`, where responseType is id-pkix-ocsp-basic (1.3.6.1.5.5.7.48.1.1). */
+uint32_t der_basic_ocsp_response(const uint8_t *octets, size_t len, der_basic_ocsp_response_at *out, der_fault *fault);
+
+/* Reads the response about one certificate at the front of the octets (SingleResponse, RFC 6960 4.2.1). Its places
+ * count from there. */
+uint32_t der_single_response(const uint8_t *octets, size_t len, der_single_response_at *out, der_fault *fault);
+
+/* Reads all octets as a message with its type (ContentInfo, RFC 5652 section 3). What stands in `content` is not
+ * read further. */
+uint32_t der_content_info(const uint8_t *octets, size_t len, der_content_info_at *out, der_fault *fault);
+
+/* Reads all octets as a signed message (SignedData, RFC 5652 5.1). The octets are the contents octets of `content`,
+ * where contentType is id-signedData (1.2.840.113549.1.7.2). */
+uint32_t der_signed_data(const uint8_t *octets, size_t len, der_signed_data_at *out, der_fault *fault);
+
+/* Reads the signer at the front of the octets (SignerInfo, RFC 5652 5.3). Its places count from there. */
+uint32_t der_signer_info(const uint8_t *octets, size_t len, der_signer_info_at *out, der_fault *fault);
+
+/* Reads the attribute of a name at the front of the octets (AttributeTypeAndValue, RFC 5280 4.1.2.4). Its places
+ * count from there. */
+uint32_t der_attribute_type_and_value(const uint8_t *octets, size_t len, der_attribute_type_and_value_at *out,
+                                      der_fault *fault);
+
+/* Reads the attribute of a signer, a request or a private key at the front of the octets (Attribute, RFC 5652 5.3,
+ * RFC 2986 4.1, RFC 5958 section 2). Its places count from there. */
+uint32_t der_attribute(const uint8_t *octets, size_t len, der_attribute_at *out, der_fault *fault);
+/* end of calls */
+
+/* Reads all octets as a certificate, and writes which rules of RFC 5280 it breaks: 0, or the sum of bits of
+ * der_certificate_rule. No path, no signature and no other rule is checked. */
+uint32_t der_check_rfc5280(const uint8_t *octets, size_t len, uint32_t *broken, der_fault *fault);
+
+/* Reads all octets as a certificate revocation list, and writes which rules it breaks, as bits of der_list_rule. */
+uint32_t der_check_rfc5280_list(const uint8_t *octets, size_t len, uint32_t *broken, der_fault *fault);
+
+/* Reads all octets as a value of the type with a name. Writes the value's one encoding to the front of a buffer, and its
+ * length to `written`. If the buffer is too short (103), only `written` is written, with the length that is enough; so a
+ * first call may have no buffer. If the octets are refused, or no type has the name (102), both are unchanged.
+ *
+ * The names are those of certview lines ("cert", "crl", "spki", "pkcs8", "keyusage" ..) and of derview ("i64", "oid",
+ * "utctime" ..); docs/FORMAT.md has them. The encoding is the octets that were read, except for derview's types of sets
+ * that are read in any order and written in order, which have as many octets. A set of a message stays as it came. */
+uint32_t der_canonical(const uint8_t *name, size_t name_len, const uint8_t *octets, size_t len, uint8_t *buffer,
+                       size_t buffer_len, size_t *written, der_fault *fault);
+
+/* der_canonical for a name that ends with an octet 0, as "cert". */
+uint32_t der_canonical_named(const char *name, const uint8_t *octets, size_t len, uint8_t *buffer, size_t buffer_len,
+                             size_t *written, der_fault *fault);
+
+/* Returns the place of the encoding after a place; after a place of no octets, that of the encoding there. If the octets
+ * have none, some place within them is returned. */
+der_place der_next_encoding(const uint8_t *octets, size_t len, const der_place *last);
+
+/* Returns the place of the contents octets of an encoding, whose place a call wrote for these octets. For another place,
+ * some place within the octets is returned. */
+der_place der_contents(const uint8_t *octets, size_t len, const der_place *place);
+
+/* Returns the place of the octets that a signature covers: the first field of a certificate, a list, a request or a signed
+ * OCSP response. Only headers are read. For octets that are no such message, some place within them is returned. */
+der_place der_signed_octets(const uint8_t *octets, size_t len);
+
+/* ---- Lists within a message. All places count from the start of the message's octets:
+ *
+ *     der_place left = der_extensions(octets, len, &certificate.extensions);
+ *     while (left.length > 0) {
+ *         result = der_next_extension(octets, len, &left, &extension, &fault);
+ *         if (result != 0) ...
+ *     }
+ */
+
+/* Returns the place of the extensions of a certificate, a list or a response, without their headers; a place of no octets
+ * if the field is absent. */
+der_place der_extensions(const uint8_t *octets, size_t len, const der_place *field);
+
+/* Returns the place of the items of a field with one header, such as the entries of a list; a place of no octets if the
+ * field is absent. */
+der_place der_items(const uint8_t *octets, size_t len, const der_place *field);
+
+/* written by tools/bindings: next calls */
+/* Reads the extension at the front of `left`, and moves `left` past it. The places count from the start of the
+ * octets. At first, `left` is the result of der_extensions. Returns 100 if `left` is not within the octets. */
+uint32_t der_next_extension(const uint8_t *octets, size_t len, der_place *left, der_extension_at *out,
+                            der_fault *fault);
+
+/* Reads the entry of a list of revoked certificates at the front of `left`, and moves `left` past it. The places
+ * count from the start of the octets. At first, `left` is the result of der_items for `revoked_certificates`.
+ * Returns 100 if `left` is not within the octets. */
+uint32_t der_next_revoked_certificate(const uint8_t *octets, size_t len, der_place *left,
+                                      der_revoked_certificate_at *out, der_fault *fault);
+
+/* Reads the response about one certificate at the front of `left`, and moves `left` past it. The places count from
+ * the start of the octets. At first, `left` is the result of der_items for `responses`. Returns 100 if `left` is not
+ * within the octets. */
+uint32_t der_next_single_response(const uint8_t *octets, size_t len, der_place *left, der_single_response_at *out,
+                                  der_fault *fault);
+
+/* Reads the signer at the front of `left`, and moves `left` past it. The places count from the start of the octets.
+ * At first, `left` is the result of der_items for `signer_infos`. Returns 100 if `left` is not within the octets. */
+uint32_t der_next_signer_info(const uint8_t *octets, size_t len, der_place *left, der_signer_info_at *out,
+                              der_fault *fault);
+
+/* Reads the attribute of a signer, a request or a private key at the front of `left`, and moves `left` past it. The
+ * places count from the start of the octets. At first, `left` is the result of der_items for `signed_attrs`,
+ * `unsigned_attrs` or `attributes`. Returns 100 if `left` is not within the octets. */
+uint32_t der_next_attribute(const uint8_t *octets, size_t len, der_place *left, der_attribute_at *out,
+                            der_fault *fault);
+/* end of next calls */
+
+/* The attributes of a name that are left: parts that were not entered, and attributes of the part that was. */
+typedef struct der_name_left {
+    der_place parts;
+    der_place attributes;
+} der_name_left;
+
+/* Returns all attributes of a name:
+ *
+ *     der_name_left left = der_name(octets, len, &certificate.subject);
+ *     while (der_has_attribute(&left)) {
+ *         result = der_next_name_attribute(octets, len, &left, &attribute, &fault);
+ *         if (result != 0) ...
+ *     }
+ */
+der_name_left der_name(const uint8_t *octets, size_t len, const der_place *name);
+
+/* Returns 1 if an attribute is left, else 0. */
+int der_has_attribute(const der_name_left *left);
+
+/* Reads the next attribute that is left, and moves `left` past it. Returns 100 if `left` is not within the octets, or is no
+ * name. */
+uint32_t der_next_name_attribute(const uint8_t *octets, size_t len, der_name_left *left,
+                                 der_attribute_type_and_value_at *out, der_fault *fault);
+
+#undef DER_ASSERT
+#ifdef __cplusplus
+}
+#endif
+#endif

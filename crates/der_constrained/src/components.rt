@@ -1,0 +1,27 @@
+//! How many components a SEQUENCE OF or a SET OF has (X.680 51.5).
+
+ghost use Rattle.std.specs.Prelude.{◌≡◌, ◌<◌, ◌^◌, length};
+ghost use Rattle.der_constrained.specs.Components.{component_count};
+
+use der_tlv::{Header, Reader, SliceReader};
+
+/// How many encodings the octets are, one after another: two in 02 01 05 05 00. 0 of other octets.
+///
+/// It reads the headers alone, and takes no memory.
+pub(crate) fn count_components(octets: &[u8]) -> usize
+    requires { length octets.now < 2 ^ 32 }
+    ensures { result ≡ component_count octets.now }
+{
+    let mut reader = match SliceReader::new(octets) {
+        Ok(reader) => reader,
+        Err(_) => unreachable!(),
+    };
+    let mut count = 0;
+    'components: while !reader.is_finished() {
+        match Header::decode_with_contents(&mut reader) {
+            Ok(_) => count += 1,
+            Err(_) => return 0,
+        }
+    }
+    count
+}

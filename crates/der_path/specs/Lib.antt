@@ -1,0 +1,5 @@
+pub mod Addresses
+pub mod Domains
+pub mod Mailboxes
+pub mod Placement
+pub mod Resources

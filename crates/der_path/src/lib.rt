@@ -1,0 +1,15 @@
+//! A chain of certificates as RFC 5280 section 6 validates it: so far the names of section 4.2.1.10, each
+//! beside a constraint.
+#![tactic(auto)]
+
+mod address;
+mod domain;
+mod mailbox;
+mod placement;
+mod resource;
+
+pub use address::address_placement;
+pub use domain::domain_placement;
+pub use mailbox::mailbox_placement;
+pub use placement::Placement;
+pub use resource::resource_placement;
