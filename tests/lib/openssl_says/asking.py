@@ -8,7 +8,7 @@ from ..reader import pem, texts
 # A name as RFC 4514 writes it, in the order of its attributes.
 NAMES = ["-nameopt", "esc_2253,esc_ctrl,utf8,dump_nostr,dump_der,sep_comma_plus_space,sname"]
 MONTHS = "Jan Feb Mar Apr May Jun Jul Aug Sep Oct Nov Dec".split()
-DATE = re.compile(r"(\w{3}) +(\d+) (\d\d:\d\d:\d\d)(?:\.\d+)? (\d{4}) GMT")
+DATE = re.compile(r"(\w{3}) +(\d+) (\d\d:\d\d:\d\d(?:\.\d+)?) (\d{4}) GMT")
 # Attributes that openssl calls otherwise than RFC 4519 and RFC 4514 do.
 OTHER_NAMES = {"street": "STREET", "rfc822Mailbox": "mail"}
 

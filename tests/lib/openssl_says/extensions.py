@@ -153,8 +153,7 @@ def stamps(parts, lines):
     """The log and the time of each."""
     whole = "".join(lines)
     logs = [it.replace(" ", "").lower() for it in re.findall(r"Log ID\s*: ([0-9A-F: ]+?)(?=Timestamp)", whole)]
-    times = re.findall(r"Timestamp : (\w+ +\d+ [\d:]+)(\.\d+) (\d+ GMT)", whole)
-    moments = [date(f"{front} {end}").replace(" UTC", f"{millis} UTC") for front, millis, end in times]
+    moments = [date(it) for it in re.findall(r"Timestamp : (\w+ +\d+ [\d:.]+ \d+ GMT)", whole)]
     found = [re.match(r"v1 of log (\S+) (\S+ \S+ UTC)", it).groups() for it in parts]
     return found, list(zip(logs, moments))
 

@@ -100,8 +100,9 @@ def compare_value(compared, message, field, kind, shown):
 
 def time_of(kind, shown):
     octets = tlv(0x17 if kind == "UTCTIME" else 0x18, shown.encode())
+    read = values.utc_time if kind == "UTCTIME" else values.fractional_time
     try:
-        return values.time(Encoding(octets, 0, 2, len(octets)))
+        return read(Encoding(octets, 0, 2, len(octets)))
     except Refused:
         return shown
 
