@@ -5,6 +5,7 @@
 //!
 //! Reading refuses another tag (4), the value's faults, and octets left over after it (3).
 
+ghost use Rattle.std.specs.Prelude.{◌≡◌};
 ghost use Rattle.der_elem.specs.FormatMakers.{mapped_format};
 
 use crate::coded::{DecodeFields, EncodeFields};
@@ -22,6 +23,7 @@ use der_elem::{
 use der_tlv::{BackWriter, Error, Header, Length, Source, Writer};
 use std::alloc::Global;
 use std::cmp::Ordering;
+use std::ops::Deref;
 
 /// Fields after a constructed tag of this class with this number. The class is bits 8 and 7 of the
 /// identifier. Only the names below give it outside this crate, so it is application (1),
@@ -40,6 +42,17 @@ pub type ExplicitApplication<T, const NUMBER: u32> = ExplicitIn<Field<T, End>, 1
 
 /// A value after a private tag with this number: `[PRIVATE NUMBER] EXPLICIT T`.
 pub type ExplicitPrivate<T, const NUMBER: u32> = ExplicitIn<Field<T, End>, 3, NUMBER>;
+
+impl<T, const CLASS: u8, const NUMBER: u32> Deref for ExplicitIn<Field<T, End>, CLASS, NUMBER> {
+    type Target = T;
+
+    ghost deref_gives = { λ tagged value. value ≡ tagged.fields.first };
+
+    /// The value after the tag.
+    fn deref(&self) -> &T {
+        &self.fields.first
+    }
+}
 
 impl<F, const CLASS: u8, const NUMBER: u32> OneTag for ExplicitIn<F, CLASS, NUMBER> {
     type Marker = ExplicitTagIn<CLASS, NUMBER>;

@@ -5,6 +5,7 @@
 //!
 //! Reading refuses another tag, also that of the other form, (4), and the contents' faults.
 
+ghost use Rattle.std.specs.Prelude.{◌≡◌};
 ghost use Rattle.der_elem.specs.FormatMakers.{mapped_format};
 
 use crate::marker_tag::ImplicitTagIn;
@@ -15,6 +16,7 @@ use der_elem::{
 use der_tlv::{BackWriter, Error, Header, Length, Source, Writer};
 use std::alloc::Global;
 use std::cmp::Ordering;
+use std::ops::Deref;
 
 /// A value after a tag of this class with this number in place of its own. The class is bits 8 and 7
 /// of the identifier. Only the names below give it outside this crate, so it is application (1),
@@ -33,6 +35,17 @@ pub type ImplicitApplication<T, const NUMBER: u32> = ImplicitIn<T, 1, NUMBER>;
 
 /// A value after a private tag with this number: `[PRIVATE NUMBER] IMPLICIT T`.
 pub type ImplicitPrivate<T, const NUMBER: u32> = ImplicitIn<T, 3, NUMBER>;
+
+impl<T, const CLASS: u8, const NUMBER: u32> Deref for ImplicitIn<T, CLASS, NUMBER> {
+    type Target = T;
+
+    ghost deref_gives = { λ tagged value. value ≡ tagged.value };
+
+    /// The value after the tag.
+    fn deref(&self) -> &T {
+        &self.value
+    }
+}
 
 impl<T: OneTag, const CLASS: u8, const NUMBER: u32> OneTag for ImplicitIn<T, CLASS, NUMBER> {
     type Marker = ImplicitTagIn<<T as OneTag>::Marker, CLASS, NUMBER>;

@@ -15,7 +15,7 @@ fn access_told(alloc: Global, access: &AccessDescription) -> Result<(Vec<u8>, Ve
     match access.access_location() {
         GeneralName::UniformResourceIdentifier(place) => {
             let method = copied(alloc, method.as_bytes())?;
-            let place = copied(alloc, place.value.as_bytes())?;
+            let place = copied(alloc, place.as_bytes())?;
             Ok((method, place))
         }
         _ => Err(0),

@@ -31,7 +31,7 @@ fn date_told(alloc: Global, octets: &[u8]) -> Result<(u16, u8, u8), u8> {
 // How many parts the name of a directory has.
 fn parts_of(alloc: Global, name: &GeneralName) -> Result<usize, u8> {
     match name {
-        GeneralName::DirectoryName(name) => numbered(name.fields.first.items().count(alloc)),
+        GeneralName::DirectoryName(name) => numbered(name.items().count(alloc)),
         _ => Err(0),
     }
 }

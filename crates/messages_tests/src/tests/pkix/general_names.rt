@@ -60,7 +60,7 @@ fn alternative_names_have_kinds(rt: HostRuntime) -> Result<(), Fail> {
 /// The octets of a registered identifier, or of a directory's name.
 fn octets_of_name(alloc: Global, octets: &[u8]) -> Result<Vec<u8>, u8> {
     match GeneralName::from_der(alloc, octets) {
-        Ok(GeneralName::RegisteredId(identifier)) => copied(alloc, identifier.value.as_bytes()),
+        Ok(GeneralName::RegisteredId(identifier)) => copied(alloc, identifier.as_bytes()),
         Ok(GeneralName::DirectoryName(directory)) => numbered(directory.fields.first.to_der(alloc)),
         Ok(_) => Err(0),
         Err(e) => Err(e.kind().number()),

@@ -44,7 +44,7 @@ fn reasons_told(alloc: Global, octets: &[u8]) -> Result<(usize, bool, bool), u8>
         Ok(point) => {
             let names = match point.distribution_point() {
                 Some(DistributionPointName::FullName(names)) => {
-                    numbered(names.value.items().count(alloc))?
+                    numbered(names.items().count(alloc))?
                 }
                 _ => 0,
             };

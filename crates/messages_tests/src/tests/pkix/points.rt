@@ -20,11 +20,11 @@ enum Named {
 fn name_of_point(alloc: Global, point: &DistributionPoint) -> Result<Named, u8> {
     match point.distribution_point() {
         Some(DistributionPointName::FullName(names)) => {
-            let count = numbered(names.value.items().count(alloc))?;
+            let count = numbered(names.items().count(alloc))?;
             Ok(Named::Full(count))
         }
         Some(DistributionPointName::NameRelativeToCrlIssuer(part)) => {
-            let count = numbered(part.value.items().count(alloc))?;
+            let count = numbered(part.items().count(alloc))?;
             Ok(Named::Relative(count))
         }
         None => Ok(Named::No),

@@ -84,7 +84,7 @@ fn basic_told(
             let signed = basic.tbs_response_data();
             let key = match signed.responder_id() {
                 ResponderId::ByName(_) => None,
-                ResponderId::ByKey(key) => Some(key.fields.first.as_bytes().len()),
+                ResponderId::ByKey(key) => Some(key.as_bytes().len()),
             };
             let extensions = match signed.response_extensions() {
                 Some(extensions) => numbered(extensions.items().count(alloc))?,
