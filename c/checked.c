@@ -31,10 +31,81 @@ CHECKED(signed_data, der_signed_data_at)
 CHECKED(signer_info, der_signer_info_at)
 CHECKED(attribute_type_and_value, der_attribute_type_and_value_at)
 CHECKED(attribute, der_attribute_at)
+CHECKED(algorithm_identifier, der_algorithm_identifier_at)
+CHECKED(rsassa_pss_params, der_rsassa_pss_params_at)
+CHECKED(ecdsa_sig_value, der_ecdsa_sig_value_at)
+CHECKED(pbes2_params, der_pbes2_params_at)
+CHECKED(pbkdf2_params, der_pbkdf2_params_at)
+CHECKED(rsa_public_key, der_rsa_public_key_at)
+CHECKED(rsa_private_key, der_rsa_private_key_at)
+CHECKED(ec_private_key, der_ec_private_key_at)
+CHECKED(encrypted_private_key_info, der_encrypted_private_key_info_at)
+CHECKED(authority_key_identifier, der_authority_key_identifier_at)
+CHECKED(policy_information, der_policy_information_at)
+CHECKED(policy_qualifier_info, der_policy_qualifier_info_at)
+CHECKED(policy_mapping, der_policy_mapping_at)
+CHECKED(basic_constraints, der_basic_constraints_at)
+CHECKED(name_constraints, der_name_constraints_at)
+CHECKED(general_subtree, der_general_subtree_at)
+CHECKED(policy_constraints, der_policy_constraints_at)
+CHECKED(distribution_point, der_distribution_point_at)
+CHECKED(access_description, der_access_description_at)
+CHECKED(issuing_distribution_point, der_issuing_distribution_point_at)
+CHECKED(ocsp_request, der_ocsp_request_at)
+CHECKED(tbs_request, der_tbs_request_at)
+CHECKED(request, der_request_at)
+CHECKED(cert_id, der_cert_id_at)
+CHECKED(issuer_and_serial_number, der_issuer_and_serial_number_at)
+CHECKED(enveloped_data, der_enveloped_data_at)
+CHECKED(encrypted_content_info, der_encrypted_content_info_at)
+CHECKED(key_trans_recipient_info, der_key_trans_recipient_info_at)
+CHECKED(encrypted_data, der_encrypted_data_at)
+CHECKED(signing_certificate_v2, der_signing_certificate_v2_at)
+CHECKED(ess_cert_idv2, der_ess_cert_idv2_at)
+CHECKED(time_stamp_req, der_time_stamp_req_at)
+CHECKED(message_imprint, der_message_imprint_at)
+CHECKED(time_stamp_resp, der_time_stamp_resp_at)
+CHECKED(pki_status_info, der_pki_status_info_at)
+CHECKED(tst_info, der_tst_info_at)
+CHECKED(accuracy, der_accuracy_at)
+CHECKED(pfx, der_pfx_at)
+CHECKED(mac_data, der_mac_data_at)
+CHECKED(digest_info, der_digest_info_at)
+CHECKED(safe_bag, der_safe_bag_at)
+CHECKED(cert_bag, der_cert_bag_at)
 /* end of checked calls */
 
+CHECKED(unsigned_integer, uint64_t)
+CHECKED(time, uint64_t)
+CHECKED(fractional_time, uint64_t)
+CHECKED(named_bits, uint32_t)
+CHECKED(general_name, uint32_t)
 CHECKED(check_rfc5280, uint32_t)
 CHECKED(check_rfc5280_list, uint32_t)
+
+uint32_t proved_names_match(const uint8_t *first, size_t first_len, const uint8_t *second, size_t second_len, uint32_t *out,
+                            der_fault *fault);
+uint32_t der_names_match(const uint8_t *first, size_t first_len, const uint8_t *second, size_t second_len, uint32_t *out,
+                         der_fault *fault)
+{
+    der_fault unasked;
+    fault = asked(fault, &unasked);
+    if (is_null(first, first_len) || is_null(second, second_len))
+        return refuse(DER_NULL_POINTER, fault);
+    return proved_names_match(first, first_len, second, second_len, out, fault);
+}
+
+/* A null pointer has no octets for the calls that return no number of a fault. */
+static size_t there(const uint8_t *octets, size_t len)
+{
+    return octets != NULL ? len : 0;
+}
+
+uint32_t proved_name_is_of_host(const uint8_t *name, size_t name_len, const uint8_t *host, size_t host_len);
+uint32_t der_name_is_of_host(const uint8_t *name, size_t name_len, const uint8_t *host, size_t host_len)
+{
+    return proved_name_is_of_host(name, there(name, name_len), host, there(host, host_len));
+}
 
 uint32_t proved_canonical(const uint8_t *name, size_t name_len, const uint8_t *octets, size_t len, uint8_t *buffer,
                           size_t buffer_len, size_t *written, der_fault *fault);
@@ -55,12 +126,6 @@ uint32_t der_canonical_named(const char *name, const uint8_t *octets, size_t len
     if (name == NULL)
         return refuse(DER_NULL_POINTER, asked(fault, &unasked));
     return der_canonical((const uint8_t *)name, strlen(name), octets, len, buffer, buffer_len, written, fault);
-}
-
-/* A null pointer has no octets for the calls that return a place. */
-static size_t there(const uint8_t *octets, size_t len)
-{
-    return octets != NULL ? len : 0;
 }
 
 der_place proved_next_encoding(const uint8_t *octets, size_t len, const der_place *last);

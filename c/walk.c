@@ -57,6 +57,13 @@ static uint32_t taken(uint32_t result, der_place *left, void *out, size_t count,
     return 0;
 }
 
+/* The number of octets of the encoding at the front of what is left; if there is none, of all that is left. */
+static uint32_t front(const uint8_t *octets, size_t len, const der_place *left)
+{
+    der_place last = {left->offset, 0}, item = der_next_encoding(octets, len, &last);
+    return item.offset == left->offset && item.length != 0 && item.length <= left->length ? item.length : left->length;
+}
+
 #define NEXT(name, type, places)                                                                             \
     uint32_t der_next_##name(const uint8_t *octets, size_t len, der_place *left, type *out, der_fault *fault) \
     {                                                                                                        \
@@ -70,12 +77,43 @@ static uint32_t taken(uint32_t result, der_place *left, void *out, size_t count,
         return taken(result, left, out, places, fault);                                                      \
     }
 
+/* The same by a call that reads all octets: those of the encoding at the front of what is left. If the octets have no
+ * encoding there, the call says why. */
+#define NEXT_ENCODING(name, type, places)                                                                    \
+    uint32_t der_next_##name(const uint8_t *octets, size_t len, der_place *left, type *out, der_fault *fault) \
+    {                                                                                                        \
+        der_fault unasked;                                                                                   \
+        uint32_t result, length, before = left->offset;                                                      \
+        fault = asked(fault, &unasked);                                                                      \
+        result = check(octets, len, *left, fault);                                                           \
+        if (result != 0)                                                                                     \
+            return result;                                                                                   \
+        length = front(octets, len, left);                                                                   \
+        result = der_##name(octets + before, length, out, fault);                                            \
+        if (result != 0) {                                                                                   \
+            fault->position += fault->is_placed != 0 ? before : 0;                                           \
+            return result;                                                                                   \
+        }                                                                                                    \
+        take(left, length);                                                                                  \
+        move(out, places, before);                                                                           \
+        return 0;                                                                                            \
+    }
+
 /* written by tools/bindings: next calls */
 NEXT(extension, der_extension_at, 4)
 NEXT(revoked_certificate, der_revoked_certificate_at, 4)
 NEXT(single_response, der_single_response_at, 6)
 NEXT(signer_info, der_signer_info_at, 8)
 NEXT(attribute, der_attribute_at, 3)
+NEXT_ENCODING(policy_information, der_policy_information_at, 2)
+NEXT_ENCODING(policy_qualifier_info, der_policy_qualifier_info_at, 2)
+NEXT_ENCODING(policy_mapping, der_policy_mapping_at, 2)
+NEXT_ENCODING(general_subtree, der_general_subtree_at, 3)
+NEXT_ENCODING(distribution_point, der_distribution_point_at, 3)
+NEXT_ENCODING(access_description, der_access_description_at, 2)
+NEXT_ENCODING(request, der_request_at, 2)
+NEXT_ENCODING(ess_cert_idv2, der_ess_cert_idv2_at, 3)
+NEXT_ENCODING(safe_bag, der_safe_bag_at, 3)
 /* end of next calls */
 
 der_name_left der_name(const uint8_t *octets, size_t len, const der_place *name)

@@ -17,19 +17,16 @@ import sys
 import tempfile
 import warnings
 
-from lib import ROOT
+from lib import ROOT, text_of
 from lib.packages import try_go, try_other_version, try_python, try_rust
 from lib.readme_lines import try_lines
 from lib.trials import Trials, write_files
 
 SYSTEM = "/etc/ssl/certs/ca-certificates.crt"
 # what the shared object may ask of the C library, and of the linker
-ASKED = re.compile(r"^(malloc|realloc|free|mem(cpy|move|set|cmp)|bcmp|strlen|_ITM_.*|__gmon_start__|__cxa_finalize|__stack_chk_fail)$")
-CALLS = """abi_version attribute attribute_type_and_value basic_ocsp_response canonical canonical_named certificate
-certificate_list certification_request check_rfc5280 check_rfc5280_list content_info contents extension extensions
-has_attribute items name next_attribute next_encoding next_extension next_name_attribute next_revoked_certificate
-next_signer_info next_single_response number_text ocsp_response private_key_info revoked_certificate signed_data
-signed_octets signer_info single_response subject_public_key_info""".split()
+ASKED = re.compile(r"^(malloc|realloc|free|mem(cpy|move|set|cmp)|bcmp|str(len|cmp|chr)|_ITM_.*|__gmon_start__|__cxa_finalize|__stack_chk_fail)$")
+# the calls that the header declares
+CALL = re.compile(r"^\w[\w *]*\bder_(\w+)\(", re.M)
 # A file that includes the header, with members of a struct that have the names of calls.
 INCLUDED = """struct own { int der_certificate, der_contents; };
 #include <barleypulley/der.h>
@@ -114,7 +111,7 @@ def try_symbols(trials, room):
     rows = [row.split()[-2:] for row in found]
     given = sorted(name.split("@")[0] for kind, name in rows if kind in "TDBR")
     asked = [name.split("@")[0] for kind, name in rows if kind in "Uw"]
-    wanted = sorted(f"der_{name}" for name in CALLS)
+    wanted = sorted(f"der_{name}" for name in CALL.findall(text_of("c/include/barleypulley/der.h")))
     trials.tell("the names of the shared object", given != wanted and f"{given}, not {wanted}")
     rows = subprocess.run(["nm", "-g", "--defined-only", f"{room}/build/libder_c.a"], text=True, capture_output=True, check=True)
     given = sorted(row.split()[2] for row in rows.stdout.splitlines() if len(row.split()) == 3)
@@ -130,7 +127,7 @@ def try_c(trials, room, sample, files):
     make = ["make", "-s", "-C", f"{ROOT}/c", f"BUILD={room}/build", f"OBJECT={room}/proved.a"]
     trials.run("make", make)
     trials.run("make install", [*make, "install", f"PREFIX={room}/prefix"])
-    names = {"calls": "calls from C", "canonical": "canonical encodings from C", "rules": "rules of RFC 5280 from C"}
+    names = {"calls": "calls from C", "inner": "comparisons and texts from C", "canonical": "canonical encodings from C", "rules": "rules of RFC 5280 from C"}
     # (the rules are broken by single octets of a certificate of openssl's, whose extensions are known)
     given = {name: f"{room}/plain.der" if name == "rules" else sample for name in names}
     names = {name: what for name, what in names.items() if os.path.isfile(given[name])}

@@ -126,6 +126,78 @@ static void compare_rules(const X509 *x)
     same_number("broken rules", broken & ~not_told, broken_rules(x));
 }
 
+/* The contents octets of the value of an extension, in the octets of the certificate. */
+static der_place value_of(der_place left, const char *identifier)
+{
+    der_extension_at at;
+    der_place none = {0, 0};
+    der_fault fault;
+    while (left.length > 0 && der_next_extension(octets, len, &left, &at, &fault) == 0) {
+        der_place id = der_contents(octets, len, &at.extn_id);
+        if (der_object_identifier_is(octets + id.offset, id.length, identifier))
+            return der_contents(octets, len, &at.extn_value);
+    }
+    return none;
+}
+
+static void compare_usage(der_place value, X509 *x)
+{
+    ASN1_BIT_STRING *want = X509_get_ext_d2i(x, NID_key_usage, NULL, NULL);
+    uint32_t bits = 0, wanted = 0;
+    der_fault fault;
+    int i;
+    if (want == NULL)
+        return;
+    for (i = 0; i < 9; i++)
+        wanted |= (uint32_t)(ASN1_BIT_STRING_get_bit(want, i) != 0) << i;
+    same_number("keyUsage is read", der_named_bits(octets + value.offset, value.length, &bits, &fault), 0);
+    same_number("keyUsage", bits, wanted);
+    ASN1_BIT_STRING_free(want);
+}
+
+static void compare_constraints(der_place value, X509 *x)
+{
+    BASIC_CONSTRAINTS *want = X509_get_ext_d2i(x, NID_basic_constraints, NULL, NULL);
+    der_basic_constraints_at at;
+    der_fault fault;
+    uint64_t most = 0;
+    if (want == NULL)
+        return;
+    same_number("basicConstraints", der_basic_constraints(octets + value.offset, value.length, &at, &fault), 0);
+    same_number("cA", at.ca.length > 0, want->ca != 0);
+    same_number("pathLenConstraint is there", at.path_len_constraint.length > 0, want->pathlen != NULL);
+    if (want->pathlen != NULL) {
+        const uint8_t *number = octets + value.offset + at.path_len_constraint.offset;
+        same_number("pathLenConstraint is read", der_unsigned_integer(number, at.path_len_constraint.length, &most, &fault), 0);
+        same_number("pathLenConstraint", most, (uint64_t)ASN1_INTEGER_get(want->pathlen));
+    }
+    BASIC_CONSTRAINTS_free(want);
+}
+
+/* the names of a subjectAltName, each with its kind */
+static void compare_names(der_place value, X509 *x)
+{
+    GENERAL_NAMES *want = X509_get_ext_d2i(x, NID_subject_alt_name, NULL, NULL);
+    der_place left, name;
+    der_fault fault;
+    int i;
+    if (want == NULL)
+        return;
+    left = der_items(octets, len, &value);
+    name.offset = left.offset;
+    name.length = 0;
+    for (i = 0; i < sk_GENERAL_NAME_num(want); i++) {
+        GENERAL_NAME *it = sk_GENERAL_NAME_value(want, i);
+        uint32_t kind = 99;
+        name = der_next_encoding(octets, len, &name);
+        SAME("a name", name, i2d_GENERAL_NAME, it);
+        same_number("a name is read", der_general_name(octets + name.offset, name.length, &kind, &fault), 0);
+        same_number("the kind of a name", kind, (uint64_t)it->type);
+    }
+    same_number("the end of the names", name.offset + name.length, left.offset + left.length);
+    GENERAL_NAMES_free(want);
+}
+
 static void compare_certificate(X509 *x)
 {
     der_certificate_at at;
@@ -151,6 +223,9 @@ static void compare_certificate(X509 *x)
     compare_rules(x);
     compare_key(octets + at.subject_public_key_info.offset, at.subject_public_key_info.length, X509_get_X509_PUBKEY(x));
     compare_extensions(der_extensions(octets, len, &at.extensions), X509_get0_extensions(x));
+    compare_usage(value_of(der_extensions(octets, len, &at.extensions), "2.5.29.15"), x);
+    compare_names(value_of(der_extensions(octets, len, &at.extensions), "2.5.29.17"), x);
+    compare_constraints(value_of(der_extensions(octets, len, &at.extensions), "2.5.29.19"), x);
 }
 
 static void compare_entries(der_place left, STACK_OF(X509_REVOKED) * want)
@@ -169,6 +244,24 @@ static void compare_entries(der_place left, STACK_OF(X509_REVOKED) * want)
         compare_extensions(der_items(octets, len, &at.crl_entry_extensions), X509_REVOKED_get0_extensions(entry));
     }
     same_number("how many entries", (uint64_t)i + left.length, (uint64_t)count);
+}
+
+/* each entry is found by its serial number, and a serial number of 21 octets is not */
+static void find_entries(STACK_OF(X509_REVOKED) * want)
+{
+    static const uint8_t other[21] = {0x7f, 0xff, 0xff};
+    int count = want == NULL ? 0 : sk_X509_REVOKED_num(want), i;
+    der_revoked_certificate_at at;
+    der_fault fault;
+    for (i = 0; i < count; i++) {
+        unsigned char *serial = NULL;
+        int length = i2d_ASN1_INTEGER(X509_REVOKED_get0_serialNumber(sk_X509_REVOKED_value(want, i)), &serial);
+        same_number("the entry is found", der_find_revoked(octets, len, serial + 2, (size_t)length - 2, &at, &fault), 0);
+        same("the serial number that is found", at.user_certificate, serial, length);
+        OPENSSL_free(serial);
+    }
+    same_number("another is not found", der_find_revoked(octets, len, other, sizeof other, &at, &fault), 0);
+    same_number("another has no place", at.whole.length + at.user_certificate.length, 0);
 }
 
 static void compare_list(X509_CRL *x)
@@ -194,6 +287,7 @@ static void compare_list(X509_CRL *x)
     same_number("nextUpdate", at.next_update_seconds, next == NULL ? 0 : seconds(next));
     same_number("version", at.version_number, (uint64_t)X509_CRL_get_version(x));
     compare_entries(der_items(octets, len, &at.revoked_certificates), X509_CRL_get_REVOKED(x));
+    find_entries(X509_CRL_get_REVOKED(x));
     compare_extensions(der_extensions(octets, len, &at.crl_extensions), X509_CRL_get0_extensions(x));
 }
 

@@ -29,10 +29,11 @@ static void refused(const uint8_t *octets, size_t len, uint32_t number, const ch
 
 static void all_refuse(const uint8_t *octets, size_t len, uint32_t number)
 {
+    /* written by tools/bindings: refusing calls */
     REFUSES(der_certificate_at, der_certificate);
+    REFUSES(der_extension_at, der_extension);
     REFUSES(der_certificate_list_at, der_certificate_list);
     REFUSES(der_revoked_certificate_at, der_revoked_certificate);
-    REFUSES(der_extension_at, der_extension);
     REFUSES(der_subject_public_key_info_at, der_subject_public_key_info);
     REFUSES(der_private_key_info_at, der_private_key_info);
     REFUSES(der_certification_request_at, der_certification_request);
@@ -44,6 +45,49 @@ static void all_refuse(const uint8_t *octets, size_t len, uint32_t number)
     REFUSES(der_signer_info_at, der_signer_info);
     REFUSES(der_attribute_type_and_value_at, der_attribute_type_and_value);
     REFUSES(der_attribute_at, der_attribute);
+    REFUSES(der_algorithm_identifier_at, der_algorithm_identifier);
+    REFUSES(der_rsassa_pss_params_at, der_rsassa_pss_params);
+    REFUSES(der_ecdsa_sig_value_at, der_ecdsa_sig_value);
+    REFUSES(der_pbes2_params_at, der_pbes2_params);
+    REFUSES(der_pbkdf2_params_at, der_pbkdf2_params);
+    REFUSES(der_rsa_public_key_at, der_rsa_public_key);
+    REFUSES(der_rsa_private_key_at, der_rsa_private_key);
+    REFUSES(der_ec_private_key_at, der_ec_private_key);
+    REFUSES(der_encrypted_private_key_info_at, der_encrypted_private_key_info);
+    REFUSES(der_authority_key_identifier_at, der_authority_key_identifier);
+    REFUSES(der_policy_information_at, der_policy_information);
+    REFUSES(der_policy_qualifier_info_at, der_policy_qualifier_info);
+    REFUSES(der_policy_mapping_at, der_policy_mapping);
+    REFUSES(der_basic_constraints_at, der_basic_constraints);
+    REFUSES(der_name_constraints_at, der_name_constraints);
+    REFUSES(der_general_subtree_at, der_general_subtree);
+    REFUSES(der_policy_constraints_at, der_policy_constraints);
+    REFUSES(der_distribution_point_at, der_distribution_point);
+    REFUSES(der_access_description_at, der_access_description);
+    REFUSES(der_issuing_distribution_point_at, der_issuing_distribution_point);
+    REFUSES(der_ocsp_request_at, der_ocsp_request);
+    REFUSES(der_tbs_request_at, der_tbs_request);
+    REFUSES(der_request_at, der_request);
+    REFUSES(der_cert_id_at, der_cert_id);
+    REFUSES(der_issuer_and_serial_number_at, der_issuer_and_serial_number);
+    REFUSES(der_enveloped_data_at, der_enveloped_data);
+    REFUSES(der_encrypted_content_info_at, der_encrypted_content_info);
+    REFUSES(der_key_trans_recipient_info_at, der_key_trans_recipient_info);
+    REFUSES(der_encrypted_data_at, der_encrypted_data);
+    REFUSES(der_signing_certificate_v2_at, der_signing_certificate_v2);
+    REFUSES(der_ess_cert_idv2_at, der_ess_cert_idv2);
+    REFUSES(der_time_stamp_req_at, der_time_stamp_req);
+    REFUSES(der_message_imprint_at, der_message_imprint);
+    REFUSES(der_time_stamp_resp_at, der_time_stamp_resp);
+    REFUSES(der_pki_status_info_at, der_pki_status_info);
+    REFUSES(der_tst_info_at, der_tst_info);
+    REFUSES(der_accuracy_at, der_accuracy);
+    REFUSES(der_pfx_at, der_pfx);
+    REFUSES(der_mac_data_at, der_mac_data);
+    REFUSES(der_digest_info_at, der_digest_info);
+    REFUSES(der_safe_bag_at, der_safe_bag);
+    REFUSES(der_cert_bag_at, der_cert_bag);
+    /* end of refusing calls */
     REFUSES(uint32_t, der_check_rfc5280);
     REFUSES(uint32_t, der_check_rfc5280_list);
 }
@@ -60,6 +104,56 @@ static void lengths(void)
     all_refuse(few, (size_t)1 << 32, DER_OVERFLOW);
     all_refuse(few, SIZE_MAX >> 1, DER_OVERFLOW);
     all_refuse(few, SIZE_MAX, DER_OVERFLOW);
+}
+
+/* the calls that read one value refuse these octets, and write no more than the fault */
+static void values(void)
+{
+    static const struct {
+        uint8_t octets[8];
+        size_t len;
+        uint32_t number, time;
+    } rows[] = {{{0x02, 1, 5, 0}, 4, DER_TRAILING_DATA, DER_TAG_UNEXPECTED},
+                {{0x02, 2, 0, 5}, 4, DER_NONCANONICAL, DER_TAG_UNEXPECTED},
+                {{0x02, 1, 0x80}, 3, DER_VALUE, DER_TAG_UNEXPECTED},
+                {{0x02, 2, 5}, 3, DER_INCOMPLETE, DER_TAG_UNEXPECTED},
+                {{0x17, 1, 0x5a}, 3, DER_TAG_UNEXPECTED, DER_VALUE}};
+    size_t i;
+    for (i = 0; i < sizeof rows / sizeof rows[0]; i++) {
+        const uint8_t *octets = rows[i].octets;
+        size_t len = rows[i].len;
+        uint32_t number = rows[i].number;
+        REFUSES(uint64_t, der_unsigned_integer);
+        number = rows[i].time;
+        REFUSES(uint64_t, der_time);
+        number = DER_TAG_UNEXPECTED;
+        REFUSES(uint64_t, der_fractional_time);
+        REFUSES(uint32_t, der_named_bits);
+        REFUSES(uint32_t, der_general_name);
+    }
+}
+
+/* what they write */
+static void written_values(void)
+{
+    static const uint8_t number[] = {0x02, 9, 0, 255, 255, 255, 255, 255, 255, 255, 255};
+    static const uint8_t utc[] = "\x17\x0d" "700101000001Z", general[] = "\x18\x0f" "20380119031408Z";
+    static const uint8_t fraction[] = "\x18\x12" "19910506234540.25Z";
+    static const uint8_t usage[] = {0x03, 2, 1, 0x06}, all[] = {0x03, 3, 0, 0xff, 0xff}, none[] = {0x03, 1, 0};
+    static const uint8_t host[] = {0x82, 1, 'a'}, address[] = {0x87, 4, 127, 0, 0, 1}, directory[] = {0xa4, 2, 0x30, 0};
+    uint64_t wide = 0;
+    uint32_t bits = 0;
+    check(der_unsigned_integer(number, sizeof number, &wide, NULL) == 0 && wide == UINT64_MAX, "the greatest number");
+    check(der_time(utc, sizeof utc - 1, &wide, NULL) == 0 && wide == 1, "a UTCTime");
+    check(der_time(general, sizeof general - 1, &wide, NULL) == 0 && wide == 2147483648u, "a GeneralizedTime");
+    check(der_time(fraction, sizeof fraction - 1, &wide, NULL) == DER_VALUE, "no fraction of a second");
+    check(der_fractional_time(fraction, sizeof fraction - 1, &wide, NULL) == 0 && wide == 673573540, "a fraction of a second");
+    check(der_named_bits(usage, sizeof usage, &bits, NULL) == 0 && bits == (DER_KEY_CERT_SIGN | DER_CRL_SIGN), "a KeyUsage");
+    check(der_named_bits(all, sizeof all, &bits, NULL) == 0 && bits == 0xffff, "16 bits");
+    check(der_named_bits(none, sizeof none, &bits, NULL) == 0 && bits == 0, "no bits");
+    check(der_general_name(host, sizeof host, &bits, NULL) == 0 && bits == DER_DNS_NAME, "a dNSName");
+    check(der_general_name(address, sizeof address, &bits, NULL) == 0 && bits == DER_IP_ADDRESS, "an iPAddress");
+    check(der_general_name(directory, sizeof directory, &bits, NULL) == 0 && bits == DER_DIRECTORY_NAME, "a directoryName");
 }
 
 /* a call that takes the next of what is left refuses a place outside, and leaves it */
@@ -83,11 +177,22 @@ static void place_outside(const uint8_t *octets, size_t len, der_place left)
     check(is_within(len, der_contents(octets, len, &left)), "contents within the octets");
     check(is_within(2, der_next_encoding(octets, 2, &left)), "an encoding within two octets");
     check(is_within(len, der_next_encoding(octets, len, &left)), "an encoding within the octets");
+    /* written by tools/bindings: next calls */
     LEAVES(der_extension_at, der_next_extension);
     LEAVES(der_revoked_certificate_at, der_next_revoked_certificate);
     LEAVES(der_single_response_at, der_next_single_response);
     LEAVES(der_signer_info_at, der_next_signer_info);
     LEAVES(der_attribute_at, der_next_attribute);
+    LEAVES(der_policy_information_at, der_next_policy_information);
+    LEAVES(der_policy_qualifier_info_at, der_next_policy_qualifier_info);
+    LEAVES(der_policy_mapping_at, der_next_policy_mapping);
+    LEAVES(der_general_subtree_at, der_next_general_subtree);
+    LEAVES(der_distribution_point_at, der_next_distribution_point);
+    LEAVES(der_access_description_at, der_next_access_description);
+    LEAVES(der_request_at, der_next_request);
+    LEAVES(der_ess_cert_idv2_at, der_next_ess_cert_idv2);
+    LEAVES(der_safe_bag_at, der_next_safe_bag);
+    /* end of next calls */
     check(der_next_name_attribute(octets, 2, &name, &attribute, &fault) == DER_BAD_PLACE, "no attribute outside");
     check(memcmp(&name.parts, &left, sizeof left) == 0 && name.attributes.length == 0, "the name is as it was");
 }
@@ -247,6 +352,8 @@ int main(int argc, char **argv)
     IS_FILLED(fault, der_fault);
     texts();
     lengths();
+    values();
+    written_values();
     places_outside(octets, len);
     null_pointers();
     no_names();

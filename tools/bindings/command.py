@@ -12,7 +12,7 @@ from .errors import TableError
 from .tables.reading import structs_of
 from .tables.rules import Rule, rules_of
 from .tables.structs import Struct
-from .writers import fields, page, rules, structs_in_c, structs_in_python, structs_in_rust
+from .writers import fields, inner, page, rules, structs_in_c, structs_in_python, structs_in_rust
 
 RULES = "asn1/rules.txt"
 STRUCTS = "asn1/structs.txt"
@@ -55,6 +55,8 @@ def parts(found_rules: list[Rule], found_structs: list[Struct]) -> dict[str, dic
     """The lines of each written part, by its file and its name."""
     found = parts_of_lists(found_rules, found_structs)
     for struct in found_structs:
+        if struct.is_inner:
+            continue
         name = f"fields of {struct.type}"
         found.setdefault(f"rust/der-proved/src/{struct.file}.rs", {})[name] = fields.in_rust(struct)
         found.setdefault(f"go/der/{struct.file}.go", {})[name] = fields.in_go(struct)
@@ -73,6 +75,10 @@ def parts_of_lists(found_rules: list[Rule], found_structs: list[Struct]) -> dict
         },
         "c/checked.c": {"checked calls": structs_in_c.checked_calls(found_structs)},
         "c/walk.c": {"next calls": structs_in_c.walking_calls(found_structs)},
+        "c/tests/calls.c": {
+            "refusing calls": structs_in_c.refusing_calls(found_structs),
+            "next calls": structs_in_c.leaving_calls(found_structs),
+        },
         "rust/der-proved-sys/src/lib.rs": {
             "structs": structs_in_rust.structs(found_structs),
             "calls": structs_in_rust.calls(found_structs),
@@ -81,6 +87,9 @@ def parts_of_lists(found_rules: list[Rule], found_structs: list[Struct]) -> dict
         "rust/der-proved/src/rules.rs": {"rules": rules.in_rust(found_rules)},
         "go/der/rules.go": {"rules": rules.in_go(found_rules)},
         PYTHON: {"rules": rules.in_python(found_rules)},
+        "rust/der-proved/src/inner.rs": {"messages": inner.in_rust(found_structs)},
+        "go/der/inner.go": {"messages": inner.in_go(found_structs)},
+        "python/src/derproved/_inner.py": {"messages": inner.in_python(found_structs)},
         "python/src/derproved/_places.py": {"indices": structs_in_python.indices(found_structs)},
         "python/src/derproved/_der.pyi": {"classes": structs_in_python.classes(found_structs)},
         "python/src/derproved/classes.h": {"structs": structs_in_python.members(found_structs)},
@@ -89,5 +98,5 @@ def parts_of_lists(found_rules: list[Rule], found_structs: list[Struct]) -> dict
             "rules of certificates": rules.on_page(found_rules, "certificate"),
             "rules of lists": rules.on_page(found_rules, "list"),
         },
-        "docs/C.md": {"calls": page.calls(found_structs)},
+        "docs/C.md": {"calls": page.calls(found_structs), "inner calls": page.inner_calls(found_structs)},
     }

@@ -56,6 +56,11 @@ def struct_in_rust(struct: Struct) -> str:
     return f"{camel(struct.name)}At"
 
 
+def struct_in_go(struct: Struct) -> str:
+    """RSASSAPSSParams of RSASSA-PSS-params."""
+    return "".join(capital(part) for part in struct.type.split("-"))
+
+
 def with_article(noun: str) -> str:
     """'a certificate', 'an extension'."""
     return f"{'an' if noun[0] in 'aeioAEIO' else 'a'} {noun}"

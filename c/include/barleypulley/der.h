@@ -137,6 +137,32 @@ enum der_list_rule {
 };
 /* end of rules */
 
+/* The kinds of a GeneralName (RFC 5280 4.2.1.6): the numbers of their tags. */
+enum der_name_kind {
+    DER_OTHER_NAME = 0,
+    DER_RFC822_NAME = 1, /* a mailbox */
+    DER_DNS_NAME = 2,
+    DER_X400_ADDRESS = 3,
+    DER_DIRECTORY_NAME = 4, /* a Name */
+    DER_EDI_PARTY_NAME = 5,
+    DER_URI = 6,
+    DER_IP_ADDRESS = 7, /* 4 or 16 octets, in a name constraint 8 or 32 */
+    DER_REGISTERED_ID = 8
+};
+
+/* Bits of what der_named_bits writes of a KeyUsage (RFC 5280 4.2.1.3). */
+enum der_key_usage {
+    DER_DIGITAL_SIGNATURE = 1 << 0,
+    DER_NON_REPUDIATION = 1 << 1,
+    DER_KEY_ENCIPHERMENT = 1 << 2,
+    DER_DATA_ENCIPHERMENT = 1 << 3,
+    DER_KEY_AGREEMENT = 1 << 4,
+    DER_KEY_CERT_SIGN = 1 << 5,
+    DER_CRL_SIGN = 1 << 6,
+    DER_ENCIPHER_ONLY = 1 << 7,
+    DER_DECIPHER_ONLY = 1 << 8
+};
+
 /* The place of an encoding: its identifier octets, length octets and contents octets. An absent field has length 0, at the
  * offset where it would stand. */
 typedef struct der_place {
@@ -166,8 +192,8 @@ typedef struct der_certificate_at {
     der_place validity;                /* a SEQUENCE of both dates */
     der_place subject;                 /* a Name */
     der_place subject_public_key_info; /* a SubjectPublicKeyInfo */
-    der_place issuer_unique_id;        /* with its implicit tag [1] */
-    der_place subject_unique_id;       /* with its implicit tag [2] */
+    der_place issuer_unique_id;        /* with its implicit tag [1]; may be absent */
+    der_place subject_unique_id;       /* with its implicit tag [2]; may be absent */
     der_place extensions;              /* with their explicit tag [3] */
 
     uint64_t not_before;     /* in seconds from 1970-01-01T00:00:00Z, with no leap seconds; an earlier date is refused (13) */
@@ -210,7 +236,7 @@ typedef struct der_revoked_certificate_at {
     der_place whole;                /* the whole entry; the next one begins after it */
     der_place user_certificate;     /* an INTEGER */
     der_place revocation_date;      /* a Time */
-    der_place crl_entry_extensions; /* a SEQUENCE OF */
+    der_place crl_entry_extensions; /* a SEQUENCE OF; may be absent */
 
     uint64_t revocation_date_seconds; /* in seconds from 1970-01-01T00:00:00Z; an earlier date is refused (13) */
 } der_revoked_certificate_at;
@@ -226,8 +252,8 @@ typedef struct der_private_key_info_at {
     der_place version;               /* an INTEGER */
     der_place private_key_algorithm; /* an AlgorithmIdentifier */
     der_place private_key;           /* an OCTET STRING */
-    der_place attributes;            /* with their implicit tag [0] */
-    der_place public_key;            /* with its implicit tag [1] */
+    der_place attributes;            /* with their implicit tag [0]; may be absent */
+    der_place public_key;            /* with its implicit tag [1]; may be absent */
 
     uint64_t version_number; /* 0 for v1, 1 for v2 */
 } der_private_key_info_at;
@@ -251,8 +277,8 @@ typedef struct der_ocsp_response_at {
     der_place response_bytes;  /* with their explicit tag [0] */
 
     /* the fields of responseBytes */
-    der_place response_type; /* an OBJECT IDENTIFIER */
-    der_place response;      /* an OCTET STRING; if responseType is id-pkix-ocsp-basic, a BasicOCSPResponse is to be read from its contents octets */
+    der_place response_type; /* an OBJECT IDENTIFIER; may be absent */
+    der_place response;      /* an OCTET STRING; if responseType is id-pkix-ocsp-basic, a BasicOCSPResponse is to be read from its contents octets; may be absent */
 
     int64_t response_status_number; /* 0 for successful, 1 to 3, 5 or 6 */
 } der_ocsp_response_at;
@@ -262,7 +288,7 @@ typedef struct der_basic_ocsp_response_at {
     der_place tbs_response_data;   /* what the signature covers */
     der_place signature_algorithm; /* an AlgorithmIdentifier */
     der_place signature;           /* a BIT STRING */
-    der_place certs;               /* with their explicit tag [0] */
+    der_place certs;               /* with their explicit tag [0]; may be absent */
 
     /* the fields of tbsResponseData */
     der_place version;             /* with its explicit tag [0]; absent where it is the default, v1 */
@@ -300,13 +326,13 @@ typedef struct der_signed_data_at {
     der_place version;            /* an INTEGER */
     der_place digest_algorithms;  /* a SET OF AlgorithmIdentifier */
     der_place encap_content_info; /* a SEQUENCE */
-    der_place certificates;       /* with their implicit tag [0] */
-    der_place crls;               /* with their implicit tag [1] */
+    der_place certificates;       /* with their implicit tag [0]; may be absent */
+    der_place crls;               /* with their implicit tag [1]; may be absent */
     der_place signer_infos;       /* a SET OF SignerInfo */
 
     /* the fields of encapContentInfo */
     der_place e_content_type; /* an OBJECT IDENTIFIER */
-    der_place e_content;      /* an OCTET STRING with its explicit tag [0] */
+    der_place e_content;      /* an OCTET STRING with its explicit tag [0]; may be absent */
 
     uint64_t version_number; /* 0 to 5 */
 } der_signed_data_at;
@@ -317,10 +343,10 @@ typedef struct der_signer_info_at {
     der_place version;             /* an INTEGER */
     der_place sid;                 /* a CHOICE: a SEQUENCE of issuer and serial number, or with its implicit tag [0] a key's identifier */
     der_place digest_algorithm;    /* an AlgorithmIdentifier */
-    der_place signed_attrs;        /* with their implicit tag [0] */
+    der_place signed_attrs;        /* with their implicit tag [0]; may be absent */
     der_place signature_algorithm; /* an AlgorithmIdentifier */
     der_place signature;           /* an OCTET STRING */
-    der_place unsigned_attrs;      /* with their implicit tag [1] */
+    der_place unsigned_attrs;      /* with their implicit tag [1]; may be absent */
 
     uint64_t version_number; /* 0 to 5 */
 } der_signer_info_at;
@@ -339,6 +365,308 @@ typedef struct der_attribute_at {
     der_place type;   /* an OBJECT IDENTIFIER */
     der_place values; /* a SET OF */
 } der_attribute_at;
+
+/* Places in an algorithm identifier (AlgorithmIdentifier, RFC 5280 4.1.1.2) */
+typedef struct der_algorithm_identifier_at {
+    der_place oid;        /* an OBJECT IDENTIFIER */
+    der_place parameters; /* what the identifier defines; a NULL has the octets 05 00; may be absent */
+} der_algorithm_identifier_at;
+
+/* Places in a set of parameters of RSASSA-PSS (RSASSA-PSS-params, RFC 4055 3.1) */
+typedef struct der_rsassa_pss_params_at {
+    der_place hash_algorithm;     /* an AlgorithmIdentifier, with the explicit tag [0]; may be absent */
+    der_place mask_gen_algorithm; /* an AlgorithmIdentifier, with the explicit tag [1]; may be absent */
+    der_place salt_length;        /* an INTEGER, with the explicit tag [2]; may be absent */
+    der_place trailer_field;      /* an INTEGER, with the explicit tag [3]; absent where it is the default, 1 */
+} der_rsassa_pss_params_at;
+
+/* Places in an ECDSA signature (ECDSA-Sig-Value, RFC 3279 2.2.3) */
+typedef struct der_ecdsa_sig_value_at {
+    der_place r; /* an INTEGER */
+    der_place s; /* an INTEGER */
+} der_ecdsa_sig_value_at;
+
+/* Places in a set of parameters of PBES2 (PBES2-params, RFC 8018 A.4) */
+typedef struct der_pbes2_params_at {
+    der_place key_derivation_func; /* an AlgorithmIdentifier */
+    der_place encryption_scheme;   /* an AlgorithmIdentifier */
+} der_pbes2_params_at;
+
+/* Places in a set of parameters of PBKDF2 (PBKDF2-params, RFC 8018 A.2) */
+typedef struct der_pbkdf2_params_at {
+    der_place salt;            /* a CHOICE: an OCTET STRING, or an AlgorithmIdentifier */
+    der_place iteration_count; /* an INTEGER */
+    der_place key_length;      /* an INTEGER; may be absent */
+    der_place prf;             /* an AlgorithmIdentifier; may be absent */
+} der_pbkdf2_params_at;
+
+/* Places in a public key of RSA (RSAPublicKey, RFC 8017 A.1.1) */
+typedef struct der_rsa_public_key_at {
+    der_place modulus;         /* an INTEGER */
+    der_place public_exponent; /* an INTEGER */
+} der_rsa_public_key_at;
+
+/* Places in a private key of RSA (RSAPrivateKey, RFC 8017 A.1.2) */
+typedef struct der_rsa_private_key_at {
+    der_place version;           /* an INTEGER */
+    der_place modulus;           /* an INTEGER */
+    der_place public_exponent;   /* an INTEGER */
+    der_place private_exponent;  /* an INTEGER */
+    der_place prime1;            /* an INTEGER */
+    der_place prime2;            /* an INTEGER */
+    der_place exponent1;         /* an INTEGER */
+    der_place exponent2;         /* an INTEGER */
+    der_place coefficient;       /* an INTEGER */
+    der_place other_prime_infos; /* a SEQUENCE OF OtherPrimeInfo; may be absent */
+} der_rsa_private_key_at;
+
+/* Places in a private key of an elliptic curve (ECPrivateKey, RFC 5915 section 3) */
+typedef struct der_ec_private_key_at {
+    der_place version;     /* an INTEGER */
+    der_place private_key; /* an OCTET STRING */
+    der_place parameters;  /* a CHOICE: an OBJECT IDENTIFIER, which names the curve, a NULL, or the curve as a SEQUENCE, with the explicit tag [0]; may be absent */
+    der_place public_key;  /* a BIT STRING, with the explicit tag [1]; may be absent */
+} der_ec_private_key_at;
+
+/* Places in an encrypted private key (EncryptedPrivateKeyInfo, RFC 5958 section 3) */
+typedef struct der_encrypted_private_key_info_at {
+    der_place encryption_algorithm; /* an AlgorithmIdentifier */
+    der_place encrypted_data;       /* an OCTET STRING */
+} der_encrypted_private_key_info_at;
+
+/* Places in an authority key identifier (AuthorityKeyIdentifier, RFC 5280 4.2.1.1) */
+typedef struct der_authority_key_identifier_at {
+    der_place key_identifier;               /* an OCTET STRING, with the implicit tag [0]; may be absent */
+    der_place authority_cert_issuer;        /* a SEQUENCE OF GeneralName, with the implicit tag [1]; may be absent */
+    der_place authority_cert_serial_number; /* an INTEGER, with the implicit tag [2]; may be absent */
+} der_authority_key_identifier_at;
+
+/* Places in a certificate policy (PolicyInformation, RFC 5280 4.2.1.4) */
+typedef struct der_policy_information_at {
+    der_place policy_identifier; /* an OBJECT IDENTIFIER */
+    der_place policy_qualifiers; /* a SEQUENCE OF PolicyQualifierInfo; may be absent */
+} der_policy_information_at;
+
+/* Places in a policy qualifier (PolicyQualifierInfo, RFC 5280 4.2.1.4) */
+typedef struct der_policy_qualifier_info_at {
+    der_place policy_qualifier_id; /* an OBJECT IDENTIFIER */
+    der_place qualifier;           /* what `policyQualifierId` defines */
+} der_policy_qualifier_info_at;
+
+/* Places in a policy mapping (PolicyMapping, RFC 5280 4.2.1.5) */
+typedef struct der_policy_mapping_at {
+    der_place issuer_domain_policy;  /* an OBJECT IDENTIFIER */
+    der_place subject_domain_policy; /* an OBJECT IDENTIFIER */
+} der_policy_mapping_at;
+
+/* Places in a set of basic constraints (BasicConstraints, RFC 5280 4.2.1.9) */
+typedef struct der_basic_constraints_at {
+    der_place ca;                  /* a BOOLEAN; absent where it is the default, FALSE */
+    der_place path_len_constraint; /* an INTEGER; may be absent */
+} der_basic_constraints_at;
+
+/* Places in a set of name constraints (NameConstraints, RFC 5280 4.2.1.10) */
+typedef struct der_name_constraints_at {
+    der_place permitted_subtrees; /* a SEQUENCE OF GeneralSubtree, with the implicit tag [0]; may be absent */
+    der_place excluded_subtrees;  /* a SEQUENCE OF GeneralSubtree, with the implicit tag [1]; may be absent */
+} der_name_constraints_at;
+
+/* Places in a subtree of names (GeneralSubtree, RFC 5280 4.2.1.10) */
+typedef struct der_general_subtree_at {
+    der_place base;    /* a GeneralName */
+    der_place minimum; /* an INTEGER, with the implicit tag [0]; absent where it is the default, 0 */
+    der_place maximum; /* an INTEGER, with the implicit tag [1]; may be absent */
+} der_general_subtree_at;
+
+/* Places in a set of policy constraints (PolicyConstraints, RFC 5280 4.2.1.11) */
+typedef struct der_policy_constraints_at {
+    der_place require_explicit_policy; /* an INTEGER, with the implicit tag [0]; may be absent */
+    der_place inhibit_policy_mapping;  /* an INTEGER, with the implicit tag [1]; may be absent */
+} der_policy_constraints_at;
+
+/* Places in a distribution point (DistributionPoint, RFC 5280 4.2.1.13) */
+typedef struct der_distribution_point_at {
+    der_place distribution_point; /* a CHOICE of `fullName`, with the implicit tag [0], and `nameRelativeToCRLIssuer`, with [1], with the explicit tag [0]; may be absent */
+    der_place reasons;            /* a BIT STRING, with the implicit tag [1]; may be absent */
+    der_place crl_issuer;         /* a SEQUENCE OF GeneralName, with the implicit tag [2]; may be absent */
+} der_distribution_point_at;
+
+/* Places in an access description (AccessDescription, RFC 5280 4.2.2.1) */
+typedef struct der_access_description_at {
+    der_place access_method;   /* an OBJECT IDENTIFIER */
+    der_place access_location; /* a GeneralName */
+} der_access_description_at;
+
+/* Places in an issuing distribution point (IssuingDistributionPoint, RFC 5280 5.2.5) */
+typedef struct der_issuing_distribution_point_at {
+    der_place distribution_point;            /* a CHOICE of `fullName`, with the implicit tag [0], and `nameRelativeToCRLIssuer`, with [1], with the explicit tag [0]; may be absent */
+    der_place only_contains_user_certs;      /* a BOOLEAN, with the implicit tag [1]; absent where it is the default, FALSE */
+    der_place only_contains_ca_certs;        /* a BOOLEAN, with the implicit tag [2]; absent where it is the default, FALSE */
+    der_place only_some_reasons;             /* a BIT STRING, with the implicit tag [3]; may be absent */
+    der_place indirect_crl;                  /* a BOOLEAN, with the implicit tag [4]; absent where it is the default, FALSE */
+    der_place only_contains_attribute_certs; /* a BOOLEAN, with the implicit tag [5]; absent where it is the default, FALSE */
+} der_issuing_distribution_point_at;
+
+/* Places in an OCSP request (OCSPRequest, RFC 6960 4.1.1) */
+typedef struct der_ocsp_request_at {
+    der_place tbs_request;        /* a TBSRequest */
+    der_place optional_signature; /* a Signature, with the explicit tag [0]; may be absent */
+} der_ocsp_request_at;
+
+/* Places in a body of an OCSP request (TBSRequest, RFC 6960 4.1.1) */
+typedef struct der_tbs_request_at {
+    der_place version;            /* an INTEGER, with the explicit tag [0]; absent where it is the default, v1 */
+    der_place requestor_name;     /* a GeneralName, with the explicit tag [1]; may be absent */
+    der_place request_list;       /* a SEQUENCE OF Request */
+    der_place request_extensions; /* a SEQUENCE OF Extension, with the explicit tag [2]; may be absent */
+} der_tbs_request_at;
+
+/* Places in a request about one certificate (Request, RFC 6960 4.1.1) */
+typedef struct der_request_at {
+    der_place req_cert;                  /* a CertID */
+    der_place single_request_extensions; /* a SEQUENCE OF Extension, with the explicit tag [0]; may be absent */
+} der_request_at;
+
+/* Places in a certificate's identifier in OCSP (CertID, RFC 6960 4.1.1) */
+typedef struct der_cert_id_at {
+    der_place hash_algorithm;   /* an AlgorithmIdentifier */
+    der_place issuer_name_hash; /* an OCTET STRING */
+    der_place issuer_key_hash;  /* an OCTET STRING */
+    der_place serial_number;    /* an INTEGER */
+} der_cert_id_at;
+
+/* Places in an issuer and serial number (IssuerAndSerialNumber, RFC 5652 10.2.4) */
+typedef struct der_issuer_and_serial_number_at {
+    der_place issuer;        /* a Name */
+    der_place serial_number; /* an INTEGER */
+} der_issuer_and_serial_number_at;
+
+/* Places in an enveloped message (EnvelopedData, RFC 5652 6.1) */
+typedef struct der_enveloped_data_at {
+    der_place version;                /* an INTEGER */
+    der_place originator_info;        /* an OriginatorInfo, with the implicit tag [0]; may be absent */
+    der_place recipient_infos;        /* a SET OF RecipientInfo */
+    der_place encrypted_content_info; /* an EncryptedContentInfo */
+    der_place unprotected_attrs;      /* a SET OF Attribute, with the implicit tag [1]; may be absent */
+} der_enveloped_data_at;
+
+/* Places in an encrypted content (EncryptedContentInfo, RFC 5652 6.1) */
+typedef struct der_encrypted_content_info_at {
+    der_place content_type;                 /* an OBJECT IDENTIFIER */
+    der_place content_encryption_algorithm; /* an AlgorithmIdentifier */
+    der_place encrypted_content;            /* an OCTET STRING, with the implicit tag [0]; may be absent */
+} der_encrypted_content_info_at;
+
+/* Places in a recipient with a key that is transported (KeyTransRecipientInfo, RFC 5652 6.2.1) */
+typedef struct der_key_trans_recipient_info_at {
+    der_place version;                  /* an INTEGER */
+    der_place rid;                      /* a CHOICE: an IssuerAndSerialNumber, or with its implicit tag [0] a key identifier */
+    der_place key_encryption_algorithm; /* an AlgorithmIdentifier */
+    der_place encrypted_key;            /* an OCTET STRING */
+} der_key_trans_recipient_info_at;
+
+/* Places in an encrypted message (EncryptedData, RFC 5652 section 8) */
+typedef struct der_encrypted_data_at {
+    der_place version;                /* an INTEGER */
+    der_place encrypted_content_info; /* an EncryptedContentInfo */
+    der_place unprotected_attrs;      /* a SET OF Attribute, with the implicit tag [1]; may be absent */
+} der_encrypted_data_at;
+
+/* Places in a list of the certificates of a signer (SigningCertificateV2, RFC 5035 section 3) */
+typedef struct der_signing_certificate_v2_at {
+    der_place certs;    /* a SEQUENCE OF ESSCertIDv2 */
+    der_place policies; /* a SEQUENCE OF PolicyInformation; may be absent */
+} der_signing_certificate_v2_at;
+
+/* Places in a certificate's hash value (ESSCertIDv2, RFC 5035 section 4) */
+typedef struct der_ess_cert_idv2_at {
+    der_place hash_algorithm; /* an AlgorithmIdentifier; may be absent */
+    der_place cert_hash;      /* an OCTET STRING */
+    der_place issuer_serial;  /* an IssuerSerial; may be absent */
+} der_ess_cert_idv2_at;
+
+/* Places in a request for a time stamp (TimeStampReq, RFC 3161 2.4.1) */
+typedef struct der_time_stamp_req_at {
+    der_place version;         /* an INTEGER */
+    der_place message_imprint; /* a MessageImprint */
+    der_place req_policy;      /* an OBJECT IDENTIFIER; may be absent */
+    der_place nonce;           /* an INTEGER; may be absent */
+    der_place cert_req;        /* a BOOLEAN; absent where it is the default, FALSE */
+    der_place extensions;      /* a SEQUENCE OF Extension, with the implicit tag [0]; may be absent */
+} der_time_stamp_req_at;
+
+/* Places in a hash value of what is stamped (MessageImprint, RFC 3161 2.4.1) */
+typedef struct der_message_imprint_at {
+    der_place hash_algorithm; /* an AlgorithmIdentifier */
+    der_place hashed_message; /* an OCTET STRING */
+} der_message_imprint_at;
+
+/* Places in a response with a time stamp (TimeStampResp, RFC 3161 2.4.2) */
+typedef struct der_time_stamp_resp_at {
+    der_place status;           /* a PKIStatusInfo */
+    der_place time_stamp_token; /* a ContentInfo; may be absent */
+} der_time_stamp_resp_at;
+
+/* Places in a status of a response (PKIStatusInfo, RFC 3161 2.4.2) */
+typedef struct der_pki_status_info_at {
+    der_place status;        /* an INTEGER */
+    der_place status_string; /* a SEQUENCE OF UTF8String; may be absent */
+    der_place fail_info;     /* a BIT STRING; may be absent */
+} der_pki_status_info_at;
+
+/* Places in a time stamp (TSTInfo, RFC 3161 2.4.2) */
+typedef struct der_tst_info_at {
+    der_place version;         /* an INTEGER */
+    der_place policy;          /* an OBJECT IDENTIFIER */
+    der_place message_imprint; /* a MessageImprint */
+    der_place serial_number;   /* an INTEGER */
+    der_place gen_time;        /* a GeneralizedTime */
+    der_place accuracy;        /* an Accuracy; may be absent */
+    der_place ordering;        /* a BOOLEAN; absent where it is the default, FALSE */
+    der_place nonce;           /* an INTEGER; may be absent */
+    der_place tsa;             /* a GeneralName, with the explicit tag [0]; may be absent */
+    der_place extensions;      /* a SEQUENCE OF Extension, with the implicit tag [1]; may be absent */
+} der_tst_info_at;
+
+/* Places in an accuracy of a time (Accuracy, RFC 3161 2.4.2) */
+typedef struct der_accuracy_at {
+    der_place seconds; /* an INTEGER; may be absent */
+    der_place millis;  /* an INTEGER, with the implicit tag [0]; may be absent */
+    der_place micros;  /* an INTEGER, with the implicit tag [1]; may be absent */
+} der_accuracy_at;
+
+/* Places in a PKCS 12 file (PFX, RFC 7292 section 4) */
+typedef struct der_pfx_at {
+    der_place version;   /* an INTEGER */
+    der_place auth_safe; /* a ContentInfo */
+    der_place mac_data;  /* a MacData; may be absent */
+} der_pfx_at;
+
+/* Places in a MAC of a PKCS 12 file (MacData, RFC 7292 section 4) */
+typedef struct der_mac_data_at {
+    der_place mac;        /* a DigestInfo */
+    der_place mac_salt;   /* an OCTET STRING */
+    der_place iterations; /* an INTEGER; may be absent */
+} der_mac_data_at;
+
+/* Places in a hash value with its algorithm (DigestInfo, RFC 8017 9.2) */
+typedef struct der_digest_info_at {
+    der_place digest_algorithm; /* an AlgorithmIdentifier */
+    der_place digest;           /* an OCTET STRING */
+} der_digest_info_at;
+
+/* Places in a bag of a PKCS 12 file (SafeBag, RFC 7292 4.2) */
+typedef struct der_safe_bag_at {
+    der_place bag_id;         /* an OBJECT IDENTIFIER */
+    der_place bag_value;      /* what `bagId` defines, with the explicit tag [0] */
+    der_place bag_attributes; /* a SET OF Attribute; may be absent */
+} der_safe_bag_at;
+
+/* Places in a certificate in a bag (CertBag, RFC 7292 4.2.3) */
+typedef struct der_cert_bag_at {
+    der_place cert_id;    /* an OBJECT IDENTIFIER */
+    der_place cert_value; /* what `certId` defines, with the explicit tag [0] */
+} der_cert_bag_at;
 
 DER_ASSERT(sizeof(der_certificate_at) == 128, "13 places and 3 numbers of 64 bits");
 DER_ASSERT(offsetof(der_certificate_at, version) == 24, "after 3 places");
@@ -377,6 +705,48 @@ DER_ASSERT(sizeof(der_attribute_type_and_value_at) == 24, "3 places");
 DER_ASSERT(offsetof(der_attribute_type_and_value_at, type) == 8, "after 1 place");
 DER_ASSERT(sizeof(der_attribute_at) == 24, "3 places");
 DER_ASSERT(offsetof(der_attribute_at, type) == 8, "after 1 place");
+DER_ASSERT(sizeof(der_algorithm_identifier_at) == 16, "2 places");
+DER_ASSERT(sizeof(der_rsassa_pss_params_at) == 32, "4 places");
+DER_ASSERT(sizeof(der_ecdsa_sig_value_at) == 16, "2 places");
+DER_ASSERT(sizeof(der_pbes2_params_at) == 16, "2 places");
+DER_ASSERT(sizeof(der_pbkdf2_params_at) == 32, "4 places");
+DER_ASSERT(sizeof(der_rsa_public_key_at) == 16, "2 places");
+DER_ASSERT(sizeof(der_rsa_private_key_at) == 80, "10 places");
+DER_ASSERT(sizeof(der_ec_private_key_at) == 32, "4 places");
+DER_ASSERT(sizeof(der_encrypted_private_key_info_at) == 16, "2 places");
+DER_ASSERT(sizeof(der_authority_key_identifier_at) == 24, "3 places");
+DER_ASSERT(sizeof(der_policy_information_at) == 16, "2 places");
+DER_ASSERT(sizeof(der_policy_qualifier_info_at) == 16, "2 places");
+DER_ASSERT(sizeof(der_policy_mapping_at) == 16, "2 places");
+DER_ASSERT(sizeof(der_basic_constraints_at) == 16, "2 places");
+DER_ASSERT(sizeof(der_name_constraints_at) == 16, "2 places");
+DER_ASSERT(sizeof(der_general_subtree_at) == 24, "3 places");
+DER_ASSERT(sizeof(der_policy_constraints_at) == 16, "2 places");
+DER_ASSERT(sizeof(der_distribution_point_at) == 24, "3 places");
+DER_ASSERT(sizeof(der_access_description_at) == 16, "2 places");
+DER_ASSERT(sizeof(der_issuing_distribution_point_at) == 48, "6 places");
+DER_ASSERT(sizeof(der_ocsp_request_at) == 16, "2 places");
+DER_ASSERT(sizeof(der_tbs_request_at) == 32, "4 places");
+DER_ASSERT(sizeof(der_request_at) == 16, "2 places");
+DER_ASSERT(sizeof(der_cert_id_at) == 32, "4 places");
+DER_ASSERT(sizeof(der_issuer_and_serial_number_at) == 16, "2 places");
+DER_ASSERT(sizeof(der_enveloped_data_at) == 40, "5 places");
+DER_ASSERT(sizeof(der_encrypted_content_info_at) == 24, "3 places");
+DER_ASSERT(sizeof(der_key_trans_recipient_info_at) == 32, "4 places");
+DER_ASSERT(sizeof(der_encrypted_data_at) == 24, "3 places");
+DER_ASSERT(sizeof(der_signing_certificate_v2_at) == 16, "2 places");
+DER_ASSERT(sizeof(der_ess_cert_idv2_at) == 24, "3 places");
+DER_ASSERT(sizeof(der_time_stamp_req_at) == 48, "6 places");
+DER_ASSERT(sizeof(der_message_imprint_at) == 16, "2 places");
+DER_ASSERT(sizeof(der_time_stamp_resp_at) == 16, "2 places");
+DER_ASSERT(sizeof(der_pki_status_info_at) == 24, "3 places");
+DER_ASSERT(sizeof(der_tst_info_at) == 80, "10 places");
+DER_ASSERT(sizeof(der_accuracy_at) == 24, "3 places");
+DER_ASSERT(sizeof(der_pfx_at) == 24, "3 places");
+DER_ASSERT(sizeof(der_mac_data_at) == 24, "3 places");
+DER_ASSERT(sizeof(der_digest_info_at) == 16, "2 places");
+DER_ASSERT(sizeof(der_safe_bag_at) == 24, "3 places");
+DER_ASSERT(sizeof(der_cert_bag_at) == 16, "2 places");
 /* end of structs */
 
 /* Returns DER_ABI_VERSION of the library that was linked. */
@@ -443,7 +813,218 @@ uint32_t der_attribute_type_and_value(const uint8_t *octets, size_t len, der_att
 /* Reads the attribute of a signer, a request or a private key at the front of the octets (Attribute, RFC 5652 5.3,
  * RFC 2986 4.1, RFC 5958 section 2). Its places count from there. */
 uint32_t der_attribute(const uint8_t *octets, size_t len, der_attribute_at *out, der_fault *fault);
+
+/* Reads all octets as an algorithm identifier (AlgorithmIdentifier, RFC 5280 4.1.1.2). */
+uint32_t der_algorithm_identifier(const uint8_t *octets, size_t len, der_algorithm_identifier_at *out,
+                                  der_fault *fault);
+
+/* Reads all octets as a set of parameters of RSASSA-PSS (RSASSA-PSS-params, RFC 4055 3.1). An absent field has its
+ * default: SHA-1, MGF1 with SHA-1, 20 octets of salt, trailer field 1. */
+uint32_t der_rsassa_pss_params(const uint8_t *octets, size_t len, der_rsassa_pss_params_at *out, der_fault *fault);
+
+/* Reads all octets as an ECDSA signature (ECDSA-Sig-Value, RFC 3279 2.2.3). */
+uint32_t der_ecdsa_sig_value(const uint8_t *octets, size_t len, der_ecdsa_sig_value_at *out, der_fault *fault);
+
+/* Reads all octets as a set of parameters of PBES2 (PBES2-params, RFC 8018 A.4). */
+uint32_t der_pbes2_params(const uint8_t *octets, size_t len, der_pbes2_params_at *out, der_fault *fault);
+
+/* Reads all octets as a set of parameters of PBKDF2 (PBKDF2-params, RFC 8018 A.2). */
+uint32_t der_pbkdf2_params(const uint8_t *octets, size_t len, der_pbkdf2_params_at *out, der_fault *fault);
+
+/* Reads all octets as a public key of RSA (RSAPublicKey, RFC 8017 A.1.1). */
+uint32_t der_rsa_public_key(const uint8_t *octets, size_t len, der_rsa_public_key_at *out, der_fault *fault);
+
+/* Reads all octets as a private key of RSA (RSAPrivateKey, RFC 8017 A.1.2). */
+uint32_t der_rsa_private_key(const uint8_t *octets, size_t len, der_rsa_private_key_at *out, der_fault *fault);
+
+/* Reads all octets as a private key of an elliptic curve (ECPrivateKey, RFC 5915 section 3). */
+uint32_t der_ec_private_key(const uint8_t *octets, size_t len, der_ec_private_key_at *out, der_fault *fault);
+
+/* Reads all octets as an encrypted private key (EncryptedPrivateKeyInfo, RFC 5958 section 3). */
+uint32_t der_encrypted_private_key_info(const uint8_t *octets, size_t len, der_encrypted_private_key_info_at *out,
+                                        der_fault *fault);
+
+/* Reads all octets as an authority key identifier (AuthorityKeyIdentifier, RFC 5280 4.2.1.1). */
+uint32_t der_authority_key_identifier(const uint8_t *octets, size_t len, der_authority_key_identifier_at *out,
+                                      der_fault *fault);
+
+/* Reads all octets as a certificate policy (PolicyInformation, RFC 5280 4.2.1.4). */
+uint32_t der_policy_information(const uint8_t *octets, size_t len, der_policy_information_at *out, der_fault *fault);
+
+/* Reads all octets as a policy qualifier (PolicyQualifierInfo, RFC 5280 4.2.1.4). */
+uint32_t der_policy_qualifier_info(const uint8_t *octets, size_t len, der_policy_qualifier_info_at *out,
+                                   der_fault *fault);
+
+/* Reads all octets as a policy mapping (PolicyMapping, RFC 5280 4.2.1.5). */
+uint32_t der_policy_mapping(const uint8_t *octets, size_t len, der_policy_mapping_at *out, der_fault *fault);
+
+/* Reads all octets as a set of basic constraints (BasicConstraints, RFC 5280 4.2.1.9). */
+uint32_t der_basic_constraints(const uint8_t *octets, size_t len, der_basic_constraints_at *out, der_fault *fault);
+
+/* Reads all octets as a set of name constraints (NameConstraints, RFC 5280 4.2.1.10). */
+uint32_t der_name_constraints(const uint8_t *octets, size_t len, der_name_constraints_at *out, der_fault *fault);
+
+/* Reads all octets as a subtree of names (GeneralSubtree, RFC 5280 4.2.1.10). */
+uint32_t der_general_subtree(const uint8_t *octets, size_t len, der_general_subtree_at *out, der_fault *fault);
+
+/* Reads all octets as a set of policy constraints (PolicyConstraints, RFC 5280 4.2.1.11). */
+uint32_t der_policy_constraints(const uint8_t *octets, size_t len, der_policy_constraints_at *out, der_fault *fault);
+
+/* Reads all octets as a distribution point (DistributionPoint, RFC 5280 4.2.1.13). */
+uint32_t der_distribution_point(const uint8_t *octets, size_t len, der_distribution_point_at *out, der_fault *fault);
+
+/* Reads all octets as an access description (AccessDescription, RFC 5280 4.2.2.1). */
+uint32_t der_access_description(const uint8_t *octets, size_t len, der_access_description_at *out, der_fault *fault);
+
+/* Reads all octets as an issuing distribution point (IssuingDistributionPoint, RFC 5280 5.2.5). */
+uint32_t der_issuing_distribution_point(const uint8_t *octets, size_t len, der_issuing_distribution_point_at *out,
+                                        der_fault *fault);
+
+/* Reads all octets as an OCSP request (OCSPRequest, RFC 6960 4.1.1). */
+uint32_t der_ocsp_request(const uint8_t *octets, size_t len, der_ocsp_request_at *out, der_fault *fault);
+
+/* Reads all octets as a body of an OCSP request (TBSRequest, RFC 6960 4.1.1). */
+uint32_t der_tbs_request(const uint8_t *octets, size_t len, der_tbs_request_at *out, der_fault *fault);
+
+/* Reads all octets as a request about one certificate (Request, RFC 6960 4.1.1). */
+uint32_t der_request(const uint8_t *octets, size_t len, der_request_at *out, der_fault *fault);
+
+/* Reads all octets as a certificate's identifier in OCSP (CertID, RFC 6960 4.1.1). */
+uint32_t der_cert_id(const uint8_t *octets, size_t len, der_cert_id_at *out, der_fault *fault);
+
+/* Reads all octets as an issuer and serial number (IssuerAndSerialNumber, RFC 5652 10.2.4). */
+uint32_t der_issuer_and_serial_number(const uint8_t *octets, size_t len, der_issuer_and_serial_number_at *out,
+                                      der_fault *fault);
+
+/* Reads all octets as an enveloped message (EnvelopedData, RFC 5652 6.1). */
+uint32_t der_enveloped_data(const uint8_t *octets, size_t len, der_enveloped_data_at *out, der_fault *fault);
+
+/* Reads all octets as an encrypted content (EncryptedContentInfo, RFC 5652 6.1). */
+uint32_t der_encrypted_content_info(const uint8_t *octets, size_t len, der_encrypted_content_info_at *out,
+                                    der_fault *fault);
+
+/* Reads all octets as a recipient with a key that is transported (KeyTransRecipientInfo, RFC 5652 6.2.1). */
+uint32_t der_key_trans_recipient_info(const uint8_t *octets, size_t len, der_key_trans_recipient_info_at *out,
+                                      der_fault *fault);
+
+/* Reads all octets as an encrypted message (EncryptedData, RFC 5652 section 8). */
+uint32_t der_encrypted_data(const uint8_t *octets, size_t len, der_encrypted_data_at *out, der_fault *fault);
+
+/* Reads all octets as a list of the certificates of a signer (SigningCertificateV2, RFC 5035 section 3). */
+uint32_t der_signing_certificate_v2(const uint8_t *octets, size_t len, der_signing_certificate_v2_at *out,
+                                    der_fault *fault);
+
+/* Reads all octets as a certificate's hash value (ESSCertIDv2, RFC 5035 section 4). */
+uint32_t der_ess_cert_idv2(const uint8_t *octets, size_t len, der_ess_cert_idv2_at *out, der_fault *fault);
+
+/* Reads all octets as a request for a time stamp (TimeStampReq, RFC 3161 2.4.1). */
+uint32_t der_time_stamp_req(const uint8_t *octets, size_t len, der_time_stamp_req_at *out, der_fault *fault);
+
+/* Reads all octets as a hash value of what is stamped (MessageImprint, RFC 3161 2.4.1). */
+uint32_t der_message_imprint(const uint8_t *octets, size_t len, der_message_imprint_at *out, der_fault *fault);
+
+/* Reads all octets as a response with a time stamp (TimeStampResp, RFC 3161 2.4.2). */
+uint32_t der_time_stamp_resp(const uint8_t *octets, size_t len, der_time_stamp_resp_at *out, der_fault *fault);
+
+/* Reads all octets as a status of a response (PKIStatusInfo, RFC 3161 2.4.2). */
+uint32_t der_pki_status_info(const uint8_t *octets, size_t len, der_pki_status_info_at *out, der_fault *fault);
+
+/* Reads all octets as a time stamp (TSTInfo, RFC 3161 2.4.2). */
+uint32_t der_tst_info(const uint8_t *octets, size_t len, der_tst_info_at *out, der_fault *fault);
+
+/* Reads all octets as an accuracy of a time (Accuracy, RFC 3161 2.4.2). */
+uint32_t der_accuracy(const uint8_t *octets, size_t len, der_accuracy_at *out, der_fault *fault);
+
+/* Reads all octets as a PKCS 12 file (PFX, RFC 7292 section 4). */
+uint32_t der_pfx(const uint8_t *octets, size_t len, der_pfx_at *out, der_fault *fault);
+
+/* Reads all octets as a MAC of a PKCS 12 file (MacData, RFC 7292 section 4). */
+uint32_t der_mac_data(const uint8_t *octets, size_t len, der_mac_data_at *out, der_fault *fault);
+
+/* Reads all octets as a hash value with its algorithm (DigestInfo, RFC 8017 9.2). */
+uint32_t der_digest_info(const uint8_t *octets, size_t len, der_digest_info_at *out, der_fault *fault);
+
+/* Reads all octets as a bag of a PKCS 12 file (SafeBag, RFC 7292 4.2). */
+uint32_t der_safe_bag(const uint8_t *octets, size_t len, der_safe_bag_at *out, der_fault *fault);
+
+/* Reads all octets as a certificate in a bag (CertBag, RFC 7292 4.2.3). */
+uint32_t der_cert_bag(const uint8_t *octets, size_t len, der_cert_bag_at *out, der_fault *fault);
 /* end of calls */
+
+/* Reads all octets as an INTEGER from 0 to 18446744073709551615. */
+uint32_t der_unsigned_integer(const uint8_t *octets, size_t len, uint64_t *out, der_fault *fault);
+
+/* Reads all octets as a time (Time, RFC 5280 4.1.2.5): a UTCTime, or a GeneralizedTime without a fraction. Writes the
+ * seconds from 1970-01-01T00:00:00Z, with no leap seconds; an earlier time is refused (13). */
+uint32_t der_time(const uint8_t *octets, size_t len, uint64_t *out, der_fault *fault);
+
+/* Reads all octets as a GeneralizedTime that may have a fraction of a second, such as `gen_time` of a time stamp. Writes
+ * such seconds, without the fraction. */
+uint32_t der_fractional_time(const uint8_t *octets, size_t len, uint64_t *out, der_fault *fault);
+
+/* Reads all octets as a BIT STRING with named bits, such as a KeyUsage (RFC 5280 4.2.1.3). Writes the bits 0 to 15: bit 0
+ * as 1, bit 1 as 2, bit 2 as 4, and so on. */
+uint32_t der_named_bits(const uint8_t *octets, size_t len, uint32_t *out, der_fault *fault);
+
+/* Reads all octets as a GeneralName (RFC 5280 4.2.1.6), and writes its kind, one of der_name_kind. der_contents returns
+ * the place of the value: of a directoryName a whole Name, of the other kinds contents octets. */
+uint32_t der_general_name(const uint8_t *octets, size_t len, uint32_t *out, der_fault *fault);
+
+/* Reads all octets of both as Names, and writes 1 if they match (RFC 5280 7.1), else 0. A fault of `second` is returned
+ * only if `first` has none. */
+uint32_t der_names_match(const uint8_t *first, size_t first_len, const uint8_t *second, size_t second_len, uint32_t *out,
+                         der_fault *fault);
+
+/* Reads all octets as a Name, and writes it as text, with a zero at its end (RFC 4514): `CN=one,O=two`. An attribute without
+ * a short name there, and a value that is no text, is hexadecimal; control characters have a backslash. If the buffer is too
+ * short (103), it is unchanged; `length` is that of the text, without the zero. */
+uint32_t der_name_text(const uint8_t *octets, size_t len, char *buffer, size_t size, size_t *length, der_fault *fault);
+
+/* Returns 1 if the contents octets of a dNSName name a host (RFC 9525 6.3), else 0: both are domain names and equal but for
+ * the case of letters, or the name is "*." before a domain name, and the host one label, a period and this domain name. */
+uint32_t der_name_is_of_host(const uint8_t *name, size_t name_len, const uint8_t *host, size_t host_len);
+
+/* Reads all octets as GeneralNames, such as the value of a subjectAltName, and writes 1 if one is a dNSName that names the
+ * host, else 0. */
+uint32_t der_names_host(const uint8_t *octets, size_t len, const uint8_t *host, size_t host_len, uint32_t *out, der_fault *fault);
+
+/* Reads all octets as GeneralNames, and writes 1 if one is an iPAddress with these 4 or 16 octets, else 0. */
+uint32_t der_names_address(const uint8_t *octets, size_t len, const uint8_t *address, size_t address_len, uint32_t *out,
+                           der_fault *fault);
+
+/* Reads all octets as a certificate revocation list, and writes the first entry whose serial number has these contents
+ * octets; if there is none, the length of each place of `out` is 0. */
+uint32_t der_find_revoked(const uint8_t *octets, size_t len, const uint8_t *serial, size_t serial_len,
+                          der_revoked_certificate_at *out, der_fault *fault);
+
+/* The hash values that a CertID has of an issuer (RFC 6960 4.1.1): of its Name, and of its key without tag, length and
+ * unused bits. */
+typedef struct der_cert_id_hashes {
+    const uint8_t *name, *key;
+    size_t len; /* of each */
+} der_cert_id_hashes;
+
+/* Reads all octets as a CertID, and writes 1 if it has these hash values and a serial number with these contents octets,
+ * else 0. The caller compares the algorithm. */
+uint32_t der_cert_id_is(const uint8_t *octets, size_t len, const der_cert_id_hashes *hashes, const uint8_t *serial,
+                        size_t serial_len, uint32_t *out, der_fault *fault);
+
+/* Reads all octets as an IssuerAndSerialNumber (RFC 5652 10.2.4), and writes 1 if it names the certificate, else 0: the
+ * issuers match, and the serial numbers are equal. A fault is that of the octets, or else that of the certificate. */
+uint32_t der_issuer_and_serial_number_is(const uint8_t *octets, size_t len, const uint8_t *certificate, size_t certificate_len,
+                                         uint32_t *out, der_fault *fault);
+
+/* Writes the octets of signed attributes that are hashed (RFC 5652 5.4): those at the place, with the tag of a SET OF. The
+ * place is `signed_attrs` of der_signer_info_at. If the buffer is too short (103), `written` is the length that is enough. */
+uint32_t der_signed_attributes(const uint8_t *octets, size_t len, const der_place *signed_attrs, uint8_t *buffer,
+                               size_t buffer_len, size_t *written, der_fault *fault);
+
+/* Writes the contents octets of an OBJECT IDENTIFIER as text, such as 2.5.29.17, with a zero at its end, as far as it fits.
+ * Returns the length of the whole text; 0 for octets that are no object identifier, or have an arc over 64 bits. */
+size_t der_object_identifier_text(const uint8_t *contents, size_t len, char *buffer, size_t size);
+
+/* Whether this text is that of the contents octets; 0 for a text of 256 characters or more. */
+int der_object_identifier_is(const uint8_t *contents, size_t len, const char *dotted);
 
 /* Reads all octets as a certificate, and writes which rules of RFC 5280 it breaks: 0, or the sum of bits of
  * der_certificate_rule. No path, no signature and no other rule is checked. */
@@ -523,6 +1104,57 @@ uint32_t der_next_signer_info(const uint8_t *octets, size_t len, der_place *left
  * `unsigned_attrs` or `attributes`. Returns 100 if `left` is not within the octets. */
 uint32_t der_next_attribute(const uint8_t *octets, size_t len, der_place *left, der_attribute_at *out,
                             der_fault *fault);
+
+/* Reads the certificate policy at the front of `left`, and moves `left` past it. The places count from the start of
+ * the octets. At first, `left` is the result of der_items for the list. Returns 100 if `left` is not within the
+ * octets. */
+uint32_t der_next_policy_information(const uint8_t *octets, size_t len, der_place *left, der_policy_information_at *out,
+                                     der_fault *fault);
+
+/* Reads the policy qualifier at the front of `left`, and moves `left` past it. The places count from the start of
+ * the octets. At first, `left` is the result of der_items for `policy_qualifiers`. Returns 100 if `left` is not
+ * within the octets. */
+uint32_t der_next_policy_qualifier_info(const uint8_t *octets, size_t len, der_place *left,
+                                        der_policy_qualifier_info_at *out, der_fault *fault);
+
+/* Reads the policy mapping at the front of `left`, and moves `left` past it. The places count from the start of the
+ * octets. At first, `left` is the result of der_items for the list. Returns 100 if `left` is not within the octets. */
+uint32_t der_next_policy_mapping(const uint8_t *octets, size_t len, der_place *left, der_policy_mapping_at *out,
+                                 der_fault *fault);
+
+/* Reads the subtree of names at the front of `left`, and moves `left` past it. The places count from the start of
+ * the octets. At first, `left` is the result of der_items for `permitted_subtrees` or `excluded_subtrees`. Returns
+ * 100 if `left` is not within the octets. */
+uint32_t der_next_general_subtree(const uint8_t *octets, size_t len, der_place *left, der_general_subtree_at *out,
+                                  der_fault *fault);
+
+/* Reads the distribution point at the front of `left`, and moves `left` past it. The places count from the start of
+ * the octets. At first, `left` is the result of der_items for the list. Returns 100 if `left` is not within the
+ * octets. */
+uint32_t der_next_distribution_point(const uint8_t *octets, size_t len, der_place *left, der_distribution_point_at *out,
+                                     der_fault *fault);
+
+/* Reads the access description at the front of `left`, and moves `left` past it. The places count from the start of
+ * the octets. At first, `left` is the result of der_items for the list. Returns 100 if `left` is not within the
+ * octets. */
+uint32_t der_next_access_description(const uint8_t *octets, size_t len, der_place *left, der_access_description_at *out,
+                                     der_fault *fault);
+
+/* Reads the request about one certificate at the front of `left`, and moves `left` past it. The places count from
+ * the start of the octets. At first, `left` is the result of der_items for `request_list`. Returns 100 if `left` is
+ * not within the octets. */
+uint32_t der_next_request(const uint8_t *octets, size_t len, der_place *left, der_request_at *out, der_fault *fault);
+
+/* Reads the certificate's hash value at the front of `left`, and moves `left` past it. The places count from the
+ * start of the octets. At first, `left` is the result of der_items for `certs`. Returns 100 if `left` is not within
+ * the octets. */
+uint32_t der_next_ess_cert_idv2(const uint8_t *octets, size_t len, der_place *left, der_ess_cert_idv2_at *out,
+                                der_fault *fault);
+
+/* Reads the bag of a PKCS 12 file at the front of `left`, and moves `left` past it. The places count from the start
+ * of the octets. At first, `left` is the result of der_items for the SafeContents. Returns 100 if `left` is not
+ * within the octets. */
+uint32_t der_next_safe_bag(const uint8_t *octets, size_t len, der_place *left, der_safe_bag_at *out, der_fault *fault);
 /* end of next calls */
 
 /* The attributes of a name that are left: parts that were not entered, and attributes of the part that was. */

@@ -54,6 +54,26 @@ pub record NotGiven {T S : Type 0} (F : form.Ghosts T) (octets : List ℕ) (old 
 abbrev pub Answers : {T S : Type 0} → form.Ghosts T → List ℕ → (T → S → Type 0) → S → S → Fault → Fault → ℕ → Type 0
 Answers F octets shows old new old_fault fault answer = (NoFault old_fault fault answer × Given F octets shows new) ⊎ NotGiven F octets old new fault answer
 
+-- the octets are read as a value, all of them
+pub record IsRead {T : Type 0} (F : form.Ghosts T) (octets : List ℕ) : Type 0 where
+  pub value : T
+  pub read : AllRead F octets value
+
+-- both octets are read as values, all of them, and this is shown of both
+pub record GivenPair {T S : Type 0} (F : form.Ghosts T) (first second : List ℕ) (shows : T → T → S → Type 0) (new : S) : Type 0 where
+  pub one : T
+  pub other : T
+  pub read_one : AllRead F first one
+  pub read_other : AllRead F second other
+  pub shown : shows one other new
+
+-- what a call answers that reads all octets of two: the fault of the second only where the first are read
+abbrev pub AnswersPair : {T S : Type 0} → form.Ghosts T → List ℕ → List ℕ → (T → T → S → Type 0) → S → S → Fault → Fault → ℕ → Type 0
+AnswersPair F first second shows old new old_fault fault answer =
+    (NoFault old_fault fault answer × GivenPair F first second shows new)
+    ⊎ (NotGiven F first old new fault answer
+    ⊎ (IsRead F first × NotGiven F second old new fault answer))
+
 -- so many octets at the front are read as a value
 pub record FrontRead {T : Type 0} (F : form.Ghosts T) (octets : List ℕ) (value : T) (taken : ℕ) : Type 0 where
   pub parsed : F.parse Der 0 octets ≡ Ok (taken, F.encoding value)

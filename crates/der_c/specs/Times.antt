@@ -1,7 +1,8 @@
 -- Dates as seconds from 1970-01-01T00:00:00Z, with no leap seconds.
-use Rattle.std.specs.Prelude.{ℕ, Option, None, Some}
+use Rattle.std.specs.Prelude.{◌≡◌, ℕ, List, Option, None, Some}
 use Rattle.der_pkix.specs.declared.certificate.time.Time.{Time}
 use Rattle.der_pkix.specs.declared.certificate.time.Time.TheVariants.{UtcTime, GeneralTime}
+use Rattle.der_simple.specs.FractionalTimes.{fraction_of, time_octets}
 use Rattle.der_time.specs.UnixTime.{unix_seconds}
 use Rattle.der_time.specs.declared.generalized_time.GeneralizedTime.{GeneralizedTime}
 
@@ -28,3 +29,9 @@ seconds_of_general t = unix_seconds t.date_time
 abbrev pub seconds_if_given : Option GeneralizedTime → ℕ
 seconds_if_given None = 0
 seconds_if_given (Some t) = seconds_of_general t
+
+-- contents octets are a second, of which this is the number, and a fraction
+pub record IsSecondOf (contents : List ℕ) (seconds : ℕ) : Type 0 where
+  pub second : GeneralizedTime
+  pub octets_are : contents ≡ time_octets second (fraction_of contents)
+  pub seconds_are : seconds ≡ seconds_of_general second

@@ -7,6 +7,7 @@ ghost use Rattle.der_places.specs.Layout.{LaidOut};
 ghost use Rattle.der_c.specs.Answers.{Answers};
 
 use crate::fault::{Fault, refuse};
+use crate::message::read_message;
 use der_elem::{Form, FromDer};
 use der_pkix::certificate::SubjectPublicKeyInfo;
 use der_pkix::key::OneAsymmetricKey;
@@ -41,24 +42,7 @@ pub extern "C" fn der_subject_public_key_info<'a>(
         (λ v at. LaidOut (⟦<SubjectPublicKeyInfo<'a> as Placed>⟧.layout v) 0 (⟦<SubjectPublicKeyInfo<'a> as Placed>⟧.listed at) octets.now)
         out.old out.new fault.old fault.new result }
 {
-    match SubjectPublicKeyInfo::from_der(alloc, octets) {
-        Ok(value) => {
-            *out = subject_public_key_info_at(&value, octets);
-            0
-        }
-        Err(error) => refuse(error, fault),
-    }
-}
-
-/// Where the fields of a key stand that was read from these octets.
-fn subject_public_key_info_at<'a>(
-    value: &SubjectPublicKeyInfo<'a>,
-    octets: &[u8],
-) -> SubjectPublicKeyInfoPlaces
-    ensures { AllRead ⟦<SubjectPublicKeyInfo<'a> as Form>⟧ octets.now value.now
-        → LaidOut (⟦<SubjectPublicKeyInfo<'a> as Placed>⟧.layout value.now) 0 (⟦<SubjectPublicKeyInfo<'a> as Placed>⟧.listed result) octets.now }
-{
-    places_of(value, octets, 0)
+    read_message::<SubjectPublicKeyInfoPlaces, SubjectPublicKeyInfo<'a>>(alloc, octets, out, fault)
 }
 
 /// Reads octets as a PrivateKeyInfo (RFC 5958 section 2), all of them, and says where its fields stand.

@@ -7,6 +7,7 @@ ghost use Rattle.der_places.specs.Layout.{LaidAt, LaidOut};
 ghost use Rattle.der_c.specs.Answers.{Answers};
 
 use crate::fault::{Fault, refuse};
+use crate::message::read_message;
 use der_cms::cms::{ContentInfo, EncapsulatedContentInfo, SignedData};
 use der_elem::{Form, FromDer};
 use der_places::cms::{ContentInfoPlaces, EncapsulatedContentInfoPlaces, SignedDataPlaces};
@@ -28,21 +29,7 @@ pub extern "C" fn der_content_info<'a>(
         (λ v at. LaidOut (⟦<ContentInfo<'a> as Placed>⟧.layout v) 0 (⟦<ContentInfo<'a> as Placed>⟧.listed at) octets.now)
         out.old out.new fault.old fault.new result }
 {
-    match ContentInfo::from_der(alloc, octets) {
-        Ok(value) => {
-            *out = content_info_at(&value, octets);
-            0
-        }
-        Err(error) => refuse(error, fault),
-    }
-}
-
-/// Where the fields of a ContentInfo stand that was read from these octets.
-fn content_info_at<'a>(value: &ContentInfo<'a>, octets: &[u8]) -> ContentInfoPlaces
-    ensures { AllRead ⟦<ContentInfo<'a> as Form>⟧ octets.now value.now
-        → LaidOut (⟦<ContentInfo<'a> as Placed>⟧.layout value.now) 0 (⟦<ContentInfo<'a> as Placed>⟧.listed result) octets.now }
-{
-    places_of(value, octets, 0)
+    read_message::<ContentInfoPlaces, ContentInfo<'a>>(alloc, octets, out, fault)
 }
 
 /// Where the fields of a SignedData stand, and its version.

@@ -1,5 +1,6 @@
 pub mod Addresses
 pub mod Domains
+pub mod Hosts
 pub mod Mailboxes
 pub mod Placement
 pub mod Resources

@@ -4,12 +4,14 @@
 
 mod address;
 mod domain;
+mod host;
 mod mailbox;
 mod placement;
 mod resource;
 
 pub use address::address_placement;
 pub use domain::domain_placement;
+pub use host::names_host;
 pub use mailbox::mailbox_placement;
 pub use placement::Placement;
 pub use resource::resource_placement;

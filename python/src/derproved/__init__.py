@@ -29,8 +29,19 @@ from collections.abc import Iterator
 from datetime import datetime
 from enum import Enum, IntFlag
 
-from . import _der, _places, _text
+from . import _der, _inner, _places, _text
 from ._error import Error
+from ._inner import *
+from ._values import (
+    KeyUsage,
+    NameKind,
+    encodings,
+    fractional_time,
+    general_name,
+    named_bits,
+    time,
+    unsigned_integer,
+)
 
 __all__ = [
     "Attribute",
@@ -44,7 +55,9 @@ __all__ = [
     "ContentInfo",
     "Error",
     "Extension",
+    "KeyUsage",
     "ListRule",
+    "NameKind",
     "OcspResponse",
     "PrivateKeyInfo",
     "RevokedCertificate",
@@ -57,9 +70,16 @@ __all__ = [
     "check_rfc5280",
     "check_rfc5280_list",
     "contents",
+    "encodings",
+    "fractional_time",
+    "general_name",
     "name_attributes",
+    "named_bits",
     "signed_octets",
+    "time",
+    "unsigned_integer",
 ]
+__all__ += _inner.__all__
 
 Octets = bytes | bytearray | memoryview
 

@@ -26,25 +26,45 @@ static PyObject *signed_octets(PyObject *module, PyObject *octets)
     return found_in(octets, der_signed_octets);
 }
 
-/* A call that checks what RFC 5280 asks: the rules that are broken, as bits. */
-#define CHECKS(name)                                                  \
-    static PyObject *name(PyObject *module, PyObject *argument)       \
-    {                                                                 \
-        Py_buffer view;                                               \
-        der_fault fault;                                              \
-        uint32_t broken, answer;                                      \
-        (void)module;                                                 \
-        if (PyObject_GetBuffer(argument, &view, PyBUF_SIMPLE) != 0)   \
-            return NULL;                                              \
-        answer = call_##name(view.buf, (size_t)view.len, &broken, &fault); \
-        PyBuffer_Release(&view);                                      \
-        return answer != 0 ? refuse(&fault) : PyLong_FromUnsignedLong(broken); \
+/* The octets of the encoding at the front. */
+static der_place first_of_all(const uint8_t *octets, size_t len)
+{
+    der_place none = {0, 0}, first = der_next_encoding(octets, len, &none);
+    return first.offset == 0 ? first : none;
+}
+
+static PyObject *first_encoding(PyObject *module, PyObject *octets)
+{
+    (void)module;
+    return found_in(octets, first_of_all);
+}
+
+/* A call that reads octets and writes a number. */
+#define NUMBER(name, type)                                                \
+    static PyObject *name(PyObject *module, PyObject *argument)           \
+    {                                                                     \
+        Py_buffer view;                                                   \
+        der_fault fault;                                                  \
+        type number = 0;                                                  \
+        uint32_t answer;                                                  \
+        (void)module;                                                     \
+        if (PyObject_GetBuffer(argument, &view, PyBUF_SIMPLE) != 0)       \
+            return NULL;                                                  \
+        answer = der_##name(view.buf, (size_t)view.len, &number, &fault); \
+        PyBuffer_Release(&view);                                          \
+        return answer != 0 ? refuse(&fault) : PyLong_FromUnsignedLongLong(number); \
     }
 
-#define call_check_rfc5280 der_check_rfc5280
-#define call_check_rfc5280_list der_check_rfc5280_list
-CHECKS(check_rfc5280)
-CHECKS(check_rfc5280_list)
+NUMBER(check_rfc5280, uint32_t)
+NUMBER(check_rfc5280_list, uint32_t)
+NUMBER(unsigned_integer, uint64_t)
+NUMBER(fractional_time, uint64_t)
+NUMBER(named_bits, uint32_t)
+NUMBER(general_name, uint32_t)
+
+/* (`time` is a function of the C library) */
+#define der_seconds der_time
+NUMBER(seconds, uint64_t)
 
 /* the canonical encoding of what octets encode as the type with a name: a room of as many octets serves */
 static PyObject *canonical(PyObject *module, PyObject *arguments)
@@ -88,6 +108,12 @@ static PyMethodDef methods[] = {
     {"name_attributes", name_attributes, METH_VARARGS, "The same in the parts of a name."},
     {"check_rfc5280", check_rfc5280, METH_O, "The rules that a certificate breaks, as bits."},
     {"check_rfc5280_list", check_rfc5280_list, METH_O, "The rules that a list breaks, as bits."},
+    {"unsigned_integer", unsigned_integer, METH_O, "The number of an INTEGER."},
+    {"seconds", seconds, METH_O, "The seconds of a Time."},
+    {"fractional_time", fractional_time, METH_O, "The seconds of a GeneralizedTime that may have a fraction."},
+    {"named_bits", named_bits, METH_O, "The bits 0 to 15 of a BIT STRING with named bits."},
+    {"general_name", general_name, METH_O, "The number of the tag of a GeneralName."},
+    {"first_encoding", first_encoding, METH_O, "The encoding at the front."},
     {"canonical", canonical, METH_VARARGS, "The canonical encoding by the name of a type."},
     {"contents", contents, METH_O, "The contents octets."},
     {"signed_octets", signed_octets, METH_O, "What a signature covers."},

@@ -213,21 +213,63 @@ static PyType_Spec message_spec = {
 /* ---- kinds: the library's name, the class, how many places, how many numbers, and whether all of the octets are it */
 
 /* written by tools/bindings: kinds */
-#define ALL_BUT_WIDENED(A)                                          \
-    A(certificate, Certificate, 13, 3, true)                        \
-    A(certificate_list, CertificateList, 10, 3, true)               \
-    A(revoked_certificate, RevokedCertificate, 4, 1, false)         \
-    A(subject_public_key_info, SubjectPublicKeyInfo, 2, 0, true)    \
-    A(private_key_info, PrivateKeyInfo, 5, 1, true)                 \
-    A(certification_request, CertificationRequest, 7, 0, true)      \
-    A(ocsp_response, OcspResponse, 4, 1, true)                      \
-    A(basic_ocsp_response, BasicOcspResponse, 9, 1, true)           \
-    A(single_response, SingleResponse, 6, 4, false)                 \
-    A(content_info, ContentInfo, 2, 0, true)                        \
-    A(signed_data, SignedData, 8, 1, true)                          \
-    A(signer_info, SignerInfo, 8, 1, false)                         \
-    A(attribute_type_and_value, AttributeTypeAndValue, 3, 0, false) \
-    A(attribute, Attribute, 3, 0, false)
+#define ALL_BUT_WIDENED(A)                                              \
+    A(certificate, Certificate, 13, 3, true)                            \
+    A(certificate_list, CertificateList, 10, 3, true)                   \
+    A(revoked_certificate, RevokedCertificate, 4, 1, false)             \
+    A(subject_public_key_info, SubjectPublicKeyInfo, 2, 0, true)        \
+    A(private_key_info, PrivateKeyInfo, 5, 1, true)                     \
+    A(certification_request, CertificationRequest, 7, 0, true)          \
+    A(ocsp_response, OcspResponse, 4, 1, true)                          \
+    A(basic_ocsp_response, BasicOcspResponse, 9, 1, true)               \
+    A(single_response, SingleResponse, 6, 4, false)                     \
+    A(content_info, ContentInfo, 2, 0, true)                            \
+    A(signed_data, SignedData, 8, 1, true)                              \
+    A(signer_info, SignerInfo, 8, 1, false)                             \
+    A(attribute_type_and_value, AttributeTypeAndValue, 3, 0, false)     \
+    A(attribute, Attribute, 3, 0, false)                                \
+    A(algorithm_identifier, AlgorithmIdentifier, 2, 0, true)            \
+    A(rsassa_pss_params, RsassaPssParams, 4, 0, true)                   \
+    A(ecdsa_sig_value, EcdsaSigValue, 2, 0, true)                       \
+    A(pbes2_params, Pbes2Params, 2, 0, true)                            \
+    A(pbkdf2_params, Pbkdf2Params, 4, 0, true)                          \
+    A(rsa_public_key, RsaPublicKey, 2, 0, true)                         \
+    A(rsa_private_key, RsaPrivateKey, 10, 0, true)                      \
+    A(ec_private_key, EcPrivateKey, 4, 0, true)                         \
+    A(encrypted_private_key_info, EncryptedPrivateKeyInfo, 2, 0, true)  \
+    A(authority_key_identifier, AuthorityKeyIdentifier, 3, 0, true)     \
+    A(policy_information, PolicyInformation, 2, 0, true)                \
+    A(policy_qualifier_info, PolicyQualifierInfo, 2, 0, true)           \
+    A(policy_mapping, PolicyMapping, 2, 0, true)                        \
+    A(basic_constraints, BasicConstraints, 2, 0, true)                  \
+    A(name_constraints, NameConstraints, 2, 0, true)                    \
+    A(general_subtree, GeneralSubtree, 3, 0, true)                      \
+    A(policy_constraints, PolicyConstraints, 2, 0, true)                \
+    A(distribution_point, DistributionPoint, 3, 0, true)                \
+    A(access_description, AccessDescription, 2, 0, true)                \
+    A(issuing_distribution_point, IssuingDistributionPoint, 6, 0, true) \
+    A(ocsp_request, OcspRequest, 2, 0, true)                            \
+    A(tbs_request, TbsRequest, 4, 0, true)                              \
+    A(request, Request, 2, 0, true)                                     \
+    A(cert_id, CertId, 4, 0, true)                                      \
+    A(issuer_and_serial_number, IssuerAndSerialNumber, 2, 0, true)      \
+    A(enveloped_data, EnvelopedData, 5, 0, true)                        \
+    A(encrypted_content_info, EncryptedContentInfo, 3, 0, true)         \
+    A(key_trans_recipient_info, KeyTransRecipientInfo, 4, 0, true)      \
+    A(encrypted_data, EncryptedData, 3, 0, true)                        \
+    A(signing_certificate_v2, SigningCertificateV2, 2, 0, true)         \
+    A(ess_cert_idv2, EssCertIdv2, 3, 0, true)                           \
+    A(time_stamp_req, TimeStampReq, 6, 0, true)                         \
+    A(message_imprint, MessageImprint, 2, 0, true)                      \
+    A(time_stamp_resp, TimeStampResp, 2, 0, true)                       \
+    A(pki_status_info, PkiStatusInfo, 3, 0, true)                       \
+    A(tst_info, TstInfo, 10, 0, true)                                   \
+    A(accuracy, Accuracy, 3, 0, true)                                   \
+    A(pfx, Pfx, 3, 0, true)                                             \
+    A(mac_data, MacData, 3, 0, true)                                    \
+    A(digest_info, DigestInfo, 2, 0, true)                              \
+    A(safe_bag, SafeBag, 3, 0, true)                                    \
+    A(cert_bag, CertBag, 2, 0, true)
 #define ALL(A)                           \
     ALL_BUT_WIDENED(A)                   \
     A(extension, Extension, 4, 1, false)

@@ -330,6 +330,526 @@ pub struct AttributeAt {
     /// A SET OF.
     pub values: Place,
 }
+
+/// Places in an algorithm identifier: `der_algorithm_identifier_at`.
+#[repr(C)]
+#[derive(Clone, Copy, Debug, Default, PartialEq, Eq)]
+pub struct AlgorithmIdentifierAt {
+    /// An OBJECT IDENTIFIER.
+    pub oid: Place,
+    /// What the identifier defines; a NULL has the octets 05 00.
+    pub parameters: Place,
+}
+
+/// Places in a set of parameters of RSASSA-PSS: `der_rsassa_pss_params_at`.
+#[repr(C)]
+#[derive(Clone, Copy, Debug, Default, PartialEq, Eq)]
+pub struct RsassaPssParamsAt {
+    /// An AlgorithmIdentifier, with the explicit tag \[0\].
+    pub hash_algorithm: Place,
+    /// An AlgorithmIdentifier, with the explicit tag \[1\].
+    pub mask_gen_algorithm: Place,
+    /// An INTEGER, with the explicit tag \[2\].
+    pub salt_length: Place,
+    /// An INTEGER, with the explicit tag \[3\]; absent where it is the default, 1.
+    pub trailer_field: Place,
+}
+
+/// Places in an ECDSA signature: `der_ecdsa_sig_value_at`.
+#[repr(C)]
+#[derive(Clone, Copy, Debug, Default, PartialEq, Eq)]
+pub struct EcdsaSigValueAt {
+    /// An INTEGER.
+    pub r: Place,
+    /// An INTEGER.
+    pub s: Place,
+}
+
+/// Places in a set of parameters of PBES2: `der_pbes2_params_at`.
+#[repr(C)]
+#[derive(Clone, Copy, Debug, Default, PartialEq, Eq)]
+pub struct Pbes2ParamsAt {
+    /// An AlgorithmIdentifier.
+    pub key_derivation_func: Place,
+    /// An AlgorithmIdentifier.
+    pub encryption_scheme: Place,
+}
+
+/// Places in a set of parameters of PBKDF2: `der_pbkdf2_params_at`.
+#[repr(C)]
+#[derive(Clone, Copy, Debug, Default, PartialEq, Eq)]
+pub struct Pbkdf2ParamsAt {
+    /// A CHOICE: an OCTET STRING, or an AlgorithmIdentifier.
+    pub salt: Place,
+    /// An INTEGER.
+    pub iteration_count: Place,
+    /// An INTEGER.
+    pub key_length: Place,
+    /// An AlgorithmIdentifier.
+    pub prf: Place,
+}
+
+/// Places in a public key of RSA: `der_rsa_public_key_at`.
+#[repr(C)]
+#[derive(Clone, Copy, Debug, Default, PartialEq, Eq)]
+pub struct RsaPublicKeyAt {
+    /// An INTEGER.
+    pub modulus: Place,
+    /// An INTEGER.
+    pub public_exponent: Place,
+}
+
+/// Places in a private key of RSA: `der_rsa_private_key_at`.
+#[repr(C)]
+#[derive(Clone, Copy, Debug, Default, PartialEq, Eq)]
+pub struct RsaPrivateKeyAt {
+    /// An INTEGER.
+    pub version: Place,
+    /// An INTEGER.
+    pub modulus: Place,
+    /// An INTEGER.
+    pub public_exponent: Place,
+    /// An INTEGER.
+    pub private_exponent: Place,
+    /// An INTEGER.
+    pub prime1: Place,
+    /// An INTEGER.
+    pub prime2: Place,
+    /// An INTEGER.
+    pub exponent1: Place,
+    /// An INTEGER.
+    pub exponent2: Place,
+    /// An INTEGER.
+    pub coefficient: Place,
+    /// A SEQUENCE OF OtherPrimeInfo.
+    pub other_prime_infos: Place,
+}
+
+/// Places in a private key of an elliptic curve: `der_ec_private_key_at`.
+#[repr(C)]
+#[derive(Clone, Copy, Debug, Default, PartialEq, Eq)]
+pub struct EcPrivateKeyAt {
+    /// An INTEGER.
+    pub version: Place,
+    /// An OCTET STRING.
+    pub private_key: Place,
+    /// A CHOICE: an OBJECT IDENTIFIER, which names the curve, a NULL, or the curve as a SEQUENCE, with the explicit tag \[0\].
+    pub parameters: Place,
+    /// A BIT STRING, with the explicit tag \[1\].
+    pub public_key: Place,
+}
+
+/// Places in an encrypted private key: `der_encrypted_private_key_info_at`.
+#[repr(C)]
+#[derive(Clone, Copy, Debug, Default, PartialEq, Eq)]
+pub struct EncryptedPrivateKeyInfoAt {
+    /// An AlgorithmIdentifier.
+    pub encryption_algorithm: Place,
+    /// An OCTET STRING.
+    pub encrypted_data: Place,
+}
+
+/// Places in an authority key identifier: `der_authority_key_identifier_at`.
+#[repr(C)]
+#[derive(Clone, Copy, Debug, Default, PartialEq, Eq)]
+pub struct AuthorityKeyIdentifierAt {
+    /// An OCTET STRING, with the implicit tag \[0\].
+    pub key_identifier: Place,
+    /// A SEQUENCE OF GeneralName, with the implicit tag \[1\].
+    pub authority_cert_issuer: Place,
+    /// An INTEGER, with the implicit tag \[2\].
+    pub authority_cert_serial_number: Place,
+}
+
+/// Places in a certificate policy: `der_policy_information_at`.
+#[repr(C)]
+#[derive(Clone, Copy, Debug, Default, PartialEq, Eq)]
+pub struct PolicyInformationAt {
+    /// An OBJECT IDENTIFIER.
+    pub policy_identifier: Place,
+    /// A SEQUENCE OF PolicyQualifierInfo.
+    pub policy_qualifiers: Place,
+}
+
+/// Places in a policy qualifier: `der_policy_qualifier_info_at`.
+#[repr(C)]
+#[derive(Clone, Copy, Debug, Default, PartialEq, Eq)]
+pub struct PolicyQualifierInfoAt {
+    /// An OBJECT IDENTIFIER.
+    pub policy_qualifier_id: Place,
+    /// What `policyQualifierId` defines.
+    pub qualifier: Place,
+}
+
+/// Places in a policy mapping: `der_policy_mapping_at`.
+#[repr(C)]
+#[derive(Clone, Copy, Debug, Default, PartialEq, Eq)]
+pub struct PolicyMappingAt {
+    /// An OBJECT IDENTIFIER.
+    pub issuer_domain_policy: Place,
+    /// An OBJECT IDENTIFIER.
+    pub subject_domain_policy: Place,
+}
+
+/// Places in a set of basic constraints: `der_basic_constraints_at`.
+#[repr(C)]
+#[derive(Clone, Copy, Debug, Default, PartialEq, Eq)]
+pub struct BasicConstraintsAt {
+    /// A BOOLEAN; absent where it is the default, FALSE.
+    pub ca: Place,
+    /// An INTEGER.
+    pub path_len_constraint: Place,
+}
+
+/// Places in a set of name constraints: `der_name_constraints_at`.
+#[repr(C)]
+#[derive(Clone, Copy, Debug, Default, PartialEq, Eq)]
+pub struct NameConstraintsAt {
+    /// A SEQUENCE OF GeneralSubtree, with the implicit tag \[0\].
+    pub permitted_subtrees: Place,
+    /// A SEQUENCE OF GeneralSubtree, with the implicit tag \[1\].
+    pub excluded_subtrees: Place,
+}
+
+/// Places in a subtree of names: `der_general_subtree_at`.
+#[repr(C)]
+#[derive(Clone, Copy, Debug, Default, PartialEq, Eq)]
+pub struct GeneralSubtreeAt {
+    /// A GeneralName.
+    pub base: Place,
+    /// An INTEGER, with the implicit tag \[0\]; absent where it is the default, 0.
+    pub minimum: Place,
+    /// An INTEGER, with the implicit tag \[1\].
+    pub maximum: Place,
+}
+
+/// Places in a set of policy constraints: `der_policy_constraints_at`.
+#[repr(C)]
+#[derive(Clone, Copy, Debug, Default, PartialEq, Eq)]
+pub struct PolicyConstraintsAt {
+    /// An INTEGER, with the implicit tag \[0\].
+    pub require_explicit_policy: Place,
+    /// An INTEGER, with the implicit tag \[1\].
+    pub inhibit_policy_mapping: Place,
+}
+
+/// Places in a distribution point: `der_distribution_point_at`.
+#[repr(C)]
+#[derive(Clone, Copy, Debug, Default, PartialEq, Eq)]
+pub struct DistributionPointAt {
+    /// A CHOICE of `fullName`, with the implicit tag \[0\], and `nameRelativeToCRLIssuer`, with \[1\], with the explicit tag \[0\].
+    pub distribution_point: Place,
+    /// A BIT STRING, with the implicit tag \[1\].
+    pub reasons: Place,
+    /// A SEQUENCE OF GeneralName, with the implicit tag \[2\].
+    pub crl_issuer: Place,
+}
+
+/// Places in an access description: `der_access_description_at`.
+#[repr(C)]
+#[derive(Clone, Copy, Debug, Default, PartialEq, Eq)]
+pub struct AccessDescriptionAt {
+    /// An OBJECT IDENTIFIER.
+    pub access_method: Place,
+    /// A GeneralName.
+    pub access_location: Place,
+}
+
+/// Places in an issuing distribution point: `der_issuing_distribution_point_at`.
+#[repr(C)]
+#[derive(Clone, Copy, Debug, Default, PartialEq, Eq)]
+pub struct IssuingDistributionPointAt {
+    /// A CHOICE of `fullName`, with the implicit tag \[0\], and `nameRelativeToCRLIssuer`, with \[1\], with the explicit tag \[0\].
+    pub distribution_point: Place,
+    /// A BOOLEAN, with the implicit tag \[1\]; absent where it is the default, FALSE.
+    pub only_contains_user_certs: Place,
+    /// A BOOLEAN, with the implicit tag \[2\]; absent where it is the default, FALSE.
+    pub only_contains_ca_certs: Place,
+    /// A BIT STRING, with the implicit tag \[3\].
+    pub only_some_reasons: Place,
+    /// A BOOLEAN, with the implicit tag \[4\]; absent where it is the default, FALSE.
+    pub indirect_crl: Place,
+    /// A BOOLEAN, with the implicit tag \[5\]; absent where it is the default, FALSE.
+    pub only_contains_attribute_certs: Place,
+}
+
+/// Places in an OCSP request: `der_ocsp_request_at`.
+#[repr(C)]
+#[derive(Clone, Copy, Debug, Default, PartialEq, Eq)]
+pub struct OcspRequestAt {
+    /// A TBSRequest.
+    pub tbs_request: Place,
+    /// A Signature, with the explicit tag \[0\].
+    pub optional_signature: Place,
+}
+
+/// Places in a body of an OCSP request: `der_tbs_request_at`.
+#[repr(C)]
+#[derive(Clone, Copy, Debug, Default, PartialEq, Eq)]
+pub struct TbsRequestAt {
+    /// An INTEGER, with the explicit tag \[0\]; absent where it is the default, v1.
+    pub version: Place,
+    /// A GeneralName, with the explicit tag \[1\].
+    pub requestor_name: Place,
+    /// A SEQUENCE OF Request.
+    pub request_list: Place,
+    /// A SEQUENCE OF Extension, with the explicit tag \[2\].
+    pub request_extensions: Place,
+}
+
+/// Places in a request about one certificate: `der_request_at`.
+#[repr(C)]
+#[derive(Clone, Copy, Debug, Default, PartialEq, Eq)]
+pub struct RequestAt {
+    /// A CertID.
+    pub req_cert: Place,
+    /// A SEQUENCE OF Extension, with the explicit tag \[0\].
+    pub single_request_extensions: Place,
+}
+
+/// Places in a certificate's identifier in OCSP: `der_cert_id_at`.
+#[repr(C)]
+#[derive(Clone, Copy, Debug, Default, PartialEq, Eq)]
+pub struct CertIdAt {
+    /// An AlgorithmIdentifier.
+    pub hash_algorithm: Place,
+    /// An OCTET STRING.
+    pub issuer_name_hash: Place,
+    /// An OCTET STRING.
+    pub issuer_key_hash: Place,
+    /// An INTEGER.
+    pub serial_number: Place,
+}
+
+/// Places in an issuer and serial number: `der_issuer_and_serial_number_at`.
+#[repr(C)]
+#[derive(Clone, Copy, Debug, Default, PartialEq, Eq)]
+pub struct IssuerAndSerialNumberAt {
+    /// A Name.
+    pub issuer: Place,
+    /// An INTEGER.
+    pub serial_number: Place,
+}
+
+/// Places in an enveloped message: `der_enveloped_data_at`.
+#[repr(C)]
+#[derive(Clone, Copy, Debug, Default, PartialEq, Eq)]
+pub struct EnvelopedDataAt {
+    /// An INTEGER.
+    pub version: Place,
+    /// An OriginatorInfo, with the implicit tag \[0\].
+    pub originator_info: Place,
+    /// A SET OF RecipientInfo.
+    pub recipient_infos: Place,
+    /// An EncryptedContentInfo.
+    pub encrypted_content_info: Place,
+    /// A SET OF Attribute, with the implicit tag \[1\].
+    pub unprotected_attrs: Place,
+}
+
+/// Places in an encrypted content: `der_encrypted_content_info_at`.
+#[repr(C)]
+#[derive(Clone, Copy, Debug, Default, PartialEq, Eq)]
+pub struct EncryptedContentInfoAt {
+    /// An OBJECT IDENTIFIER.
+    pub content_type: Place,
+    /// An AlgorithmIdentifier.
+    pub content_encryption_algorithm: Place,
+    /// An OCTET STRING, with the implicit tag \[0\].
+    pub encrypted_content: Place,
+}
+
+/// Places in a recipient with a key that is transported: `der_key_trans_recipient_info_at`.
+#[repr(C)]
+#[derive(Clone, Copy, Debug, Default, PartialEq, Eq)]
+pub struct KeyTransRecipientInfoAt {
+    /// An INTEGER.
+    pub version: Place,
+    /// A CHOICE: an IssuerAndSerialNumber, or with its implicit tag \[0\] a key identifier.
+    pub rid: Place,
+    /// An AlgorithmIdentifier.
+    pub key_encryption_algorithm: Place,
+    /// An OCTET STRING.
+    pub encrypted_key: Place,
+}
+
+/// Places in an encrypted message: `der_encrypted_data_at`.
+#[repr(C)]
+#[derive(Clone, Copy, Debug, Default, PartialEq, Eq)]
+pub struct EncryptedDataAt {
+    /// An INTEGER.
+    pub version: Place,
+    /// An EncryptedContentInfo.
+    pub encrypted_content_info: Place,
+    /// A SET OF Attribute, with the implicit tag \[1\].
+    pub unprotected_attrs: Place,
+}
+
+/// Places in a list of the certificates of a signer: `der_signing_certificate_v2_at`.
+#[repr(C)]
+#[derive(Clone, Copy, Debug, Default, PartialEq, Eq)]
+pub struct SigningCertificateV2At {
+    /// A SEQUENCE OF ESSCertIDv2.
+    pub certs: Place,
+    /// A SEQUENCE OF PolicyInformation.
+    pub policies: Place,
+}
+
+/// Places in a certificate's hash value: `der_ess_cert_idv2_at`.
+#[repr(C)]
+#[derive(Clone, Copy, Debug, Default, PartialEq, Eq)]
+pub struct EssCertIdv2At {
+    /// An AlgorithmIdentifier.
+    pub hash_algorithm: Place,
+    /// An OCTET STRING.
+    pub cert_hash: Place,
+    /// An IssuerSerial.
+    pub issuer_serial: Place,
+}
+
+/// Places in a request for a time stamp: `der_time_stamp_req_at`.
+#[repr(C)]
+#[derive(Clone, Copy, Debug, Default, PartialEq, Eq)]
+pub struct TimeStampReqAt {
+    /// An INTEGER.
+    pub version: Place,
+    /// A MessageImprint.
+    pub message_imprint: Place,
+    /// An OBJECT IDENTIFIER.
+    pub req_policy: Place,
+    /// An INTEGER.
+    pub nonce: Place,
+    /// A BOOLEAN; absent where it is the default, FALSE.
+    pub cert_req: Place,
+    /// A SEQUENCE OF Extension, with the implicit tag \[0\].
+    pub extensions: Place,
+}
+
+/// Places in a hash value of what is stamped: `der_message_imprint_at`.
+#[repr(C)]
+#[derive(Clone, Copy, Debug, Default, PartialEq, Eq)]
+pub struct MessageImprintAt {
+    /// An AlgorithmIdentifier.
+    pub hash_algorithm: Place,
+    /// An OCTET STRING.
+    pub hashed_message: Place,
+}
+
+/// Places in a response with a time stamp: `der_time_stamp_resp_at`.
+#[repr(C)]
+#[derive(Clone, Copy, Debug, Default, PartialEq, Eq)]
+pub struct TimeStampRespAt {
+    /// A PKIStatusInfo.
+    pub status: Place,
+    /// A ContentInfo.
+    pub time_stamp_token: Place,
+}
+
+/// Places in a status of a response: `der_pki_status_info_at`.
+#[repr(C)]
+#[derive(Clone, Copy, Debug, Default, PartialEq, Eq)]
+pub struct PkiStatusInfoAt {
+    /// An INTEGER.
+    pub status: Place,
+    /// A SEQUENCE OF UTF8String.
+    pub status_string: Place,
+    /// A BIT STRING.
+    pub fail_info: Place,
+}
+
+/// Places in a time stamp: `der_tst_info_at`.
+#[repr(C)]
+#[derive(Clone, Copy, Debug, Default, PartialEq, Eq)]
+pub struct TstInfoAt {
+    /// An INTEGER.
+    pub version: Place,
+    /// An OBJECT IDENTIFIER.
+    pub policy: Place,
+    /// A MessageImprint.
+    pub message_imprint: Place,
+    /// An INTEGER.
+    pub serial_number: Place,
+    /// A GeneralizedTime.
+    pub gen_time: Place,
+    /// An Accuracy.
+    pub accuracy: Place,
+    /// A BOOLEAN; absent where it is the default, FALSE.
+    pub ordering: Place,
+    /// An INTEGER.
+    pub nonce: Place,
+    /// A GeneralName, with the explicit tag \[0\].
+    pub tsa: Place,
+    /// A SEQUENCE OF Extension, with the implicit tag \[1\].
+    pub extensions: Place,
+}
+
+/// Places in an accuracy of a time: `der_accuracy_at`.
+#[repr(C)]
+#[derive(Clone, Copy, Debug, Default, PartialEq, Eq)]
+pub struct AccuracyAt {
+    /// An INTEGER.
+    pub seconds: Place,
+    /// An INTEGER, with the implicit tag \[0\].
+    pub millis: Place,
+    /// An INTEGER, with the implicit tag \[1\].
+    pub micros: Place,
+}
+
+/// Places in a PKCS 12 file: `der_pfx_at`.
+#[repr(C)]
+#[derive(Clone, Copy, Debug, Default, PartialEq, Eq)]
+pub struct PfxAt {
+    /// An INTEGER.
+    pub version: Place,
+    /// A ContentInfo.
+    pub auth_safe: Place,
+    /// A MacData.
+    pub mac_data: Place,
+}
+
+/// Places in a MAC of a PKCS 12 file: `der_mac_data_at`.
+#[repr(C)]
+#[derive(Clone, Copy, Debug, Default, PartialEq, Eq)]
+pub struct MacDataAt {
+    /// A DigestInfo.
+    pub mac: Place,
+    /// An OCTET STRING.
+    pub mac_salt: Place,
+    /// An INTEGER.
+    pub iterations: Place,
+}
+
+/// Places in a hash value with its algorithm: `der_digest_info_at`.
+#[repr(C)]
+#[derive(Clone, Copy, Debug, Default, PartialEq, Eq)]
+pub struct DigestInfoAt {
+    /// An AlgorithmIdentifier.
+    pub digest_algorithm: Place,
+    /// An OCTET STRING.
+    pub digest: Place,
+}
+
+/// Places in a bag of a PKCS 12 file: `der_safe_bag_at`.
+#[repr(C)]
+#[derive(Clone, Copy, Debug, Default, PartialEq, Eq)]
+pub struct SafeBagAt {
+    /// An OBJECT IDENTIFIER.
+    pub bag_id: Place,
+    /// What `bagId` defines, with the explicit tag \[0\].
+    pub bag_value: Place,
+    /// A SET OF Attribute.
+    pub bag_attributes: Place,
+}
+
+/// Places in a certificate in a bag: `der_cert_bag_at`.
+#[repr(C)]
+#[derive(Clone, Copy, Debug, Default, PartialEq, Eq)]
+pub struct CertBagAt {
+    /// An OBJECT IDENTIFIER.
+    pub cert_id: Place,
+    /// What `certId` defines, with the explicit tag \[0\].
+    pub cert_value: Place,
+}
 // end of structs
 
 #[allow(missing_docs)]
@@ -377,7 +897,119 @@ extern "C" {
         fault: *mut Fault,
     ) -> u32;
     pub fn der_attribute(octets: *const u8, len: usize, out: *mut AttributeAt, fault: *mut Fault) -> u32;
+    pub fn der_algorithm_identifier(
+        octets: *const u8,
+        len: usize,
+        out: *mut AlgorithmIdentifierAt,
+        fault: *mut Fault,
+    ) -> u32;
+    pub fn der_rsassa_pss_params(octets: *const u8, len: usize, out: *mut RsassaPssParamsAt, fault: *mut Fault) -> u32;
+    pub fn der_ecdsa_sig_value(octets: *const u8, len: usize, out: *mut EcdsaSigValueAt, fault: *mut Fault) -> u32;
+    pub fn der_pbes2_params(octets: *const u8, len: usize, out: *mut Pbes2ParamsAt, fault: *mut Fault) -> u32;
+    pub fn der_pbkdf2_params(octets: *const u8, len: usize, out: *mut Pbkdf2ParamsAt, fault: *mut Fault) -> u32;
+    pub fn der_rsa_public_key(octets: *const u8, len: usize, out: *mut RsaPublicKeyAt, fault: *mut Fault) -> u32;
+    pub fn der_rsa_private_key(octets: *const u8, len: usize, out: *mut RsaPrivateKeyAt, fault: *mut Fault) -> u32;
+    pub fn der_ec_private_key(octets: *const u8, len: usize, out: *mut EcPrivateKeyAt, fault: *mut Fault) -> u32;
+    pub fn der_encrypted_private_key_info(
+        octets: *const u8,
+        len: usize,
+        out: *mut EncryptedPrivateKeyInfoAt,
+        fault: *mut Fault,
+    ) -> u32;
+    pub fn der_authority_key_identifier(
+        octets: *const u8,
+        len: usize,
+        out: *mut AuthorityKeyIdentifierAt,
+        fault: *mut Fault,
+    ) -> u32;
+    pub fn der_policy_information(
+        octets: *const u8,
+        len: usize,
+        out: *mut PolicyInformationAt,
+        fault: *mut Fault,
+    ) -> u32;
+    pub fn der_policy_qualifier_info(
+        octets: *const u8,
+        len: usize,
+        out: *mut PolicyQualifierInfoAt,
+        fault: *mut Fault,
+    ) -> u32;
+    pub fn der_policy_mapping(octets: *const u8, len: usize, out: *mut PolicyMappingAt, fault: *mut Fault) -> u32;
+    pub fn der_basic_constraints(octets: *const u8, len: usize, out: *mut BasicConstraintsAt, fault: *mut Fault) -> u32;
+    pub fn der_name_constraints(octets: *const u8, len: usize, out: *mut NameConstraintsAt, fault: *mut Fault) -> u32;
+    pub fn der_general_subtree(octets: *const u8, len: usize, out: *mut GeneralSubtreeAt, fault: *mut Fault) -> u32;
+    pub fn der_policy_constraints(
+        octets: *const u8,
+        len: usize,
+        out: *mut PolicyConstraintsAt,
+        fault: *mut Fault,
+    ) -> u32;
+    pub fn der_distribution_point(
+        octets: *const u8,
+        len: usize,
+        out: *mut DistributionPointAt,
+        fault: *mut Fault,
+    ) -> u32;
+    pub fn der_access_description(
+        octets: *const u8,
+        len: usize,
+        out: *mut AccessDescriptionAt,
+        fault: *mut Fault,
+    ) -> u32;
+    pub fn der_issuing_distribution_point(
+        octets: *const u8,
+        len: usize,
+        out: *mut IssuingDistributionPointAt,
+        fault: *mut Fault,
+    ) -> u32;
+    pub fn der_ocsp_request(octets: *const u8, len: usize, out: *mut OcspRequestAt, fault: *mut Fault) -> u32;
+    pub fn der_tbs_request(octets: *const u8, len: usize, out: *mut TbsRequestAt, fault: *mut Fault) -> u32;
+    pub fn der_request(octets: *const u8, len: usize, out: *mut RequestAt, fault: *mut Fault) -> u32;
+    pub fn der_cert_id(octets: *const u8, len: usize, out: *mut CertIdAt, fault: *mut Fault) -> u32;
+    pub fn der_issuer_and_serial_number(
+        octets: *const u8,
+        len: usize,
+        out: *mut IssuerAndSerialNumberAt,
+        fault: *mut Fault,
+    ) -> u32;
+    pub fn der_enveloped_data(octets: *const u8, len: usize, out: *mut EnvelopedDataAt, fault: *mut Fault) -> u32;
+    pub fn der_encrypted_content_info(
+        octets: *const u8,
+        len: usize,
+        out: *mut EncryptedContentInfoAt,
+        fault: *mut Fault,
+    ) -> u32;
+    pub fn der_key_trans_recipient_info(
+        octets: *const u8,
+        len: usize,
+        out: *mut KeyTransRecipientInfoAt,
+        fault: *mut Fault,
+    ) -> u32;
+    pub fn der_encrypted_data(octets: *const u8, len: usize, out: *mut EncryptedDataAt, fault: *mut Fault) -> u32;
+    pub fn der_signing_certificate_v2(
+        octets: *const u8,
+        len: usize,
+        out: *mut SigningCertificateV2At,
+        fault: *mut Fault,
+    ) -> u32;
+    pub fn der_ess_cert_idv2(octets: *const u8, len: usize, out: *mut EssCertIdv2At, fault: *mut Fault) -> u32;
+    pub fn der_time_stamp_req(octets: *const u8, len: usize, out: *mut TimeStampReqAt, fault: *mut Fault) -> u32;
+    pub fn der_message_imprint(octets: *const u8, len: usize, out: *mut MessageImprintAt, fault: *mut Fault) -> u32;
+    pub fn der_time_stamp_resp(octets: *const u8, len: usize, out: *mut TimeStampRespAt, fault: *mut Fault) -> u32;
+    pub fn der_pki_status_info(octets: *const u8, len: usize, out: *mut PkiStatusInfoAt, fault: *mut Fault) -> u32;
+    pub fn der_tst_info(octets: *const u8, len: usize, out: *mut TstInfoAt, fault: *mut Fault) -> u32;
+    pub fn der_accuracy(octets: *const u8, len: usize, out: *mut AccuracyAt, fault: *mut Fault) -> u32;
+    pub fn der_pfx(octets: *const u8, len: usize, out: *mut PfxAt, fault: *mut Fault) -> u32;
+    pub fn der_mac_data(octets: *const u8, len: usize, out: *mut MacDataAt, fault: *mut Fault) -> u32;
+    pub fn der_digest_info(octets: *const u8, len: usize, out: *mut DigestInfoAt, fault: *mut Fault) -> u32;
+    pub fn der_safe_bag(octets: *const u8, len: usize, out: *mut SafeBagAt, fault: *mut Fault) -> u32;
+    pub fn der_cert_bag(octets: *const u8, len: usize, out: *mut CertBagAt, fault: *mut Fault) -> u32;
     // end of calls
+    pub fn der_unsigned_integer(octets: *const u8, len: usize, out: *mut u64, fault: *mut Fault) -> u32;
+    pub fn der_time(octets: *const u8, len: usize, out: *mut u64, fault: *mut Fault) -> u32;
+    pub fn der_fractional_time(octets: *const u8, len: usize, out: *mut u64, fault: *mut Fault) -> u32;
+    pub fn der_named_bits(octets: *const u8, len: usize, out: *mut u32, fault: *mut Fault) -> u32;
+    pub fn der_general_name(octets: *const u8, len: usize, out: *mut u32, fault: *mut Fault) -> u32;
     pub fn der_check_rfc5280(octets: *const u8, len: usize, broken: *mut u32, fault: *mut Fault) -> u32;
     pub fn der_check_rfc5280_list(octets: *const u8, len: usize, broken: *mut u32, fault: *mut Fault) -> u32;
     pub fn der_canonical(

@@ -33,11 +33,13 @@ mod certificate;
 mod certificate_list;
 mod cms;
 mod error;
+mod inner;
 mod key;
 mod ocsp;
 mod place;
 mod request;
 mod rules;
+mod values;
 
 pub use attribute::{Attribute, AttributeTypeAndValue, Attributes, Name};
 pub use canonical::{canonical, CanonicalError};
@@ -45,8 +47,12 @@ pub use certificate::{Certificate, Extension, Extensions};
 pub use certificate_list::{CertificateList, RevokedCertificate, RevokedCertificates};
 pub use cms::{ContentInfo, SignedData, SignerInfo, SignerInfos};
 pub use error::Error;
+pub use inner::*;
 pub use key::{PrivateKeyInfo, SubjectPublicKeyInfo};
 pub use ocsp::{BasicOcspResponse, CertStatus, OcspResponse, SingleResponse, SingleResponses};
 pub use place::{contents, signed_octets};
 pub use request::CertificationRequest;
 pub use rules::{check_rfc5280, check_rfc5280_list, BrokenRules, CertificateRule, ListRule};
+pub use values::{
+    encodings, fractional_time, general_name, named_bits, time, unsigned_integer, Encodings, GeneralName,
+};

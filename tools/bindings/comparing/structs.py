@@ -14,7 +14,7 @@ from .listing import Entry, Listing, compare
 
 FOLDER = "crates/der_c/src"
 PLACES = "crates/der_places/src"
-CALL = re.compile(r'^pub extern "C" fn der_(\w+)<\'a>\((?:(?!^\)).*\n)*?    out: &mut (\w+),$', re.M)
+CALL = re.compile(r'^pub extern "C" fn der_(\w+)<\'a>\((?:(?!^\)).*\n)*?    out: &mut (\w+At|\w+Places),$', re.M)
 
 
 @dataclass(frozen=True)
@@ -74,15 +74,16 @@ def entries_of(group: Group) -> list[Entry]:
 
 def compare_places(root: Path, call: Call, group: Group) -> list[Difference]:
     """The struct of der_places that a member has as its type."""
-    module = re.search(rf"^use der_places::(\w+)::(?:\{{.*\b)?{group.type}\b", call.text, re.M)
+    module = re.search(rf"^use der_places::(?:(\w+)::)?(?:\{{[^}}]*\b)?{group.type}\b", call.text, re.M)
     if not module:
-        return [Difference(call.file, 1, f"{group.type} is not imported from a module of der_places")]
-    for path in sorted((root / PLACES / module[1]).glob("*.rt")):
+        return [Difference(call.file, 1, f"{group.type} is not imported from der_places")]
+    folder = f"{PLACES}/{module[1]}" if module[1] else PLACES
+    for path in sorted((root / folder).glob("*.rt")):
         text = text_of(path)
         if re.search(rf"^pub struct {group.type} ", text, re.M):
             expected = [place(field) for field in group.fields]
-            return compare(f"{PLACES}/{module[1]}/{path.name}", text, members(group.type), expected)
-    return [Difference(f"{PLACES}/{module[1]}", 1, f"no file has {group.type}")]
+            return compare(f"{folder}/{path.name}", text, members(group.type), expected)
+    return [Difference(folder, 1, f"no file has {group.type}")]
 
 
 def place(field: Field) -> Entry:

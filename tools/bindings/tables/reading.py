@@ -10,13 +10,13 @@ from asn1.spelling import snake
 from .lines import Line, lines_of
 from .structs import ACCESS, SIZES, Field, Group, Next, Struct
 
-HEAD = re.compile(r"^([a-z][a-z0-9_]*): ([A-Z]\w+) \((RFC [^()|]+)\) \| ([^|]+)$")
+HEAD = re.compile(r"^([a-z][a-z0-9_]*): ([A-Z][\w-]+) \((RFC [^()|]+)\) \| ([^|]+)$")
 FILE = re.compile(r"^[a-z_]+$")
 KEY = re.compile(r"^([a-z_]+):(?: (.*))?$")
 PLACE = re.compile(rf"^([a-z][A-Za-z0-9]*) ({'|'.join(ACCESS)}) (.+)$")
 NUMBER = re.compile(r"^([a-z][a-z0-9_]*)(?:=([a-z][a-z0-9_]*))? (u32|u64|i64) (.+)$")
 NEXT = re.compile(r"^(?:written; (.+)|by hand (der_next_\w+))$")
-WORDS = ("file", "reads", "next", "note", "results")
+WORDS = ("file", "secret", "reads", "next", "note", "results")
 
 
 def structs_of(file: str, text: str) -> list[Struct]:
@@ -56,7 +56,7 @@ def struct_of(head: Line, lines: list[Line]) -> Struct:
         else:
             said[key[1]].append(key[2])
     struct = Struct(
-        *read.groups(), " ".join(said["file"]), said["reads"] == ["front"], next_of(head, read[1], said),
+        *read.groups(), " ".join(said["file"]), said["secret"] == ["yes"], said["reads"] == ["front"], next_of(head, read[1], said),
         tuple(said["note"]), "; ".join(said["results"]), tuple(groups),
     )
     check_struct(head, struct, said["reads"])
@@ -112,7 +112,10 @@ def check_struct(head: Line, struct: Struct, reads: list[str]) -> None:
         (not struct.places, "it has no places"),
         (any(group.member == "numbers" for group in struct.groups[:-1]), "numbers stand after the places"),
         (whole != [struct.is_front, *[False] * (len(whole) - 1)], "the place 'whole' stands first, at the front alone"),
-        (struct.is_front != (struct.next is not None), "'next:' is said of those at the front, and of no other"),
+        (struct.is_front and struct.next is None, "'next:' is said of those at the front"),
+        (not struct.is_front and struct.next is not None and not struct.next.is_written, "'next:' by hand is of those at the front"),
+        (struct.is_secret and not struct.is_inner, "'secret:' is said of 'inner' alone"),
+        (struct.is_inner and (struct.is_front or struct.numbers), "'inner' has messages that are all octets, without numbers"),
         (bool(struct.numbers) != bool(struct.results), "'results:' says what the numbers are"),
     ]
     for is_wrong, problem in wrong:

@@ -5,6 +5,7 @@ from __future__ import annotations
 from dataclasses import dataclass
 
 SIZES = {"place": 8, "u32": 4, "u64": 8, "i64": 8}
+INNER = "inner"  # the file of the types that are written as a whole
 ACCESS = ("field", "optional", "place")  # how the packages return a place: it is always there; it may be absent; not by its name
 
 
@@ -51,6 +52,7 @@ class Struct:
     standard: str  # that has the type, with the section
     noun: str
     file: str  # of the packages for Rust and Go, without its ending
+    is_secret: bool  # no octets are printed where a program prints the value
     is_front: bool  # the message stands at the front of the octets
     next: Next | None
     notes: tuple[str, ...]
@@ -68,6 +70,11 @@ class Struct:
     @property
     def fields(self) -> list[Field]:
         return self.places + self.numbers
+
+    @property
+    def is_inner(self) -> bool:
+        """Whether the type of the packages is written as a whole."""
+        return self.file == INNER
 
     @property
     def size(self) -> int:

@@ -4,7 +4,8 @@ from __future__ import annotations
 
 from ..command import RULES, STRUCTS
 from .test_lists import (
-    BITS, CHECKED, FINDINGS, GO, HEADER, LISTS, LISTS_ANTT, PAGE, PLACES, PYTHON, RULES_ANTT, RUST, SAFE, SECTIONS, SYS, VERIFY, WALK,
+    BITS, CALLS, CHECKED, FINDINGS, GO, HEADER, LISTS, LISTS_ANTT, PAGE, PLACES, PYTHON, RULES_ANTT, RUST, SAFE, SECTIONS, SYS, VERIFY,
+    WALK,
 )
 from .tree import TreeTest
 
@@ -67,6 +68,7 @@ class ChangedRules(TreeTest):
 
 
 class ChangedStructs(TreeTest):
+    INNER = {"rust/der-proved/src/inner.rs", "go/der/inner.go", "python/src/derproved/_inner.py"}
     C_OF_PYTHON = {"python/src/derproved/classes.h", "python/src/derproved/message.c", "python/src/derproved/_der.pyi"}
     CMS = ("rust/der-proved/src/cms.rs", "go/der/cms.go")
     PLACES_OF_SIGNER = "crates/der_places/src/cms/signer_info.rt"
@@ -122,13 +124,25 @@ class ChangedStructs(TreeTest):
     def test_a_struct_less(self) -> None:
         text = self.text(STRUCTS)
         start = text.index("attribute: Attribute ")
-        self.change(STRUCTS, text[start:], "")
-        expected = {HEADER, CHECKED, WALK, SYS, SAFE, PLACES, PYTHON, "docs/C.md", "crates/der_c/src/attribute.rt", *self.C_OF_PYTHON}
+        end = text.index("algorithm_identifier: ")
+        self.change(STRUCTS, text[start:end], "")
+        expected = {HEADER, CHECKED, WALK, CALLS, SYS, SAFE, PLACES, PYTHON, "docs/C.md", "crates/der_c/src/attribute.rt", *self.C_OF_PYTHON}
         self.assertEqual(self.files_told(), expected | {"rust/der-proved/src/attribute.rs", "go/der/attribute.go"})
 
     def test_a_struct_more(self) -> None:
         more = "key: Key (RFC 1 2.3) | key\n    file: key\n    reads: all\n    out: KeyPlaces\n        octets field an OCTET STRING\n"
         text = self.text(STRUCTS)
         self.change(STRUCTS, text, f"{text}\n{more}")
-        expected = {HEADER, CHECKED, SYS, SAFE, PLACES, PYTHON, "docs/C.md", "crates/der_c/src", *self.C_OF_PYTHON}
+        expected = {HEADER, CHECKED, CALLS, SYS, SAFE, PLACES, PYTHON, "docs/C.md", "crates/der_c/src", *self.C_OF_PYTHON}
         self.assertEqual(self.files_told(), expected | {"rust/der-proved/src/key.rs", "go/der/key.go"})
+
+    def test_a_struct_less_that_is_written_as_a_whole(self) -> None:
+        text = self.text(STRUCTS)
+        self.change(STRUCTS, text[text.index("cert_bag: CertBag ") :], "")
+        expected = {HEADER, CHECKED, CALLS, SYS, SAFE, PLACES, "docs/C.md", "crates/der_c/src/pkcs12.rt", *self.C_OF_PYTHON}
+        self.assertEqual(self.files_told(), expected | self.INNER)
+
+    def test_a_secret(self) -> None:
+        self.change(STRUCTS, "cert_bag: CertBag (RFC 7292 4.2.3) | certificate in a bag\n    file: inner\n",
+                    "cert_bag: CertBag (RFC 7292 4.2.3) | certificate in a bag\n    file: inner\n    secret: yes\n")
+        self.assertEqual(self.files_told(), {"rust/der-proved/src/inner.rs", "go/der/inner.go"})

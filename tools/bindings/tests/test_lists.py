@@ -5,6 +5,7 @@ from __future__ import annotations
 from .tree import TreeTest
 
 HEADER = "c/include/barleypulley/der.h"
+CALLS = "c/tests/calls.c"
 CHECKED = "c/checked.c"
 WALK = "c/walk.c"
 SYS = "rust/der-proved-sys/src/lib.rs"
@@ -33,6 +34,12 @@ WRITTEN = [
     (HEADER, "uint32_t der_next_extension(", "uint32_t der_next(", 0),
     (CHECKED, "CHECKED(extension, der_extension_at)\n", "", 0),
     (WALK, "NEXT(single_response, der_single_response_at, 6)", "NEXT(single_response, der_single_response_at, 5)", 0),
+    (WALK, "NEXT_ENCODING(request, der_request_at, 2)", "NEXT_ENCODING(request, der_request_at, 3)", 0),
+    (CALLS, "REFUSES(der_pfx_at, der_pfx)", "REFUSES(der_pfx_at, der_mac_data)", 0),
+    (CALLS, "LEAVES(der_request_at, der_next_request)", "LEAVES(der_request_at, der_next_extension)", 0),
+    ("rust/der-proved/src/inner.rs", "Pfx, pfx, PfxAt", "Pfx, pfx, CertIdAt", 0),
+    ("go/der/inner.go", "at     C.der_pfx_at", "at     C.der_cert_id_at", 0),
+    ("python/src/derproved/_inner.py", "class Pfx(_der.Pfx):", "class Pfx(_der.CertId):", 0),
     (SYS, "    pub responder_id: Place,\n", "", 0),
     (SYS, "    pub response_status_number: i64,", "    pub response_status_number: u64,", 0),
     (SYS, "    pub fn der_extension(", "    pub fn der_extensions(", 0),

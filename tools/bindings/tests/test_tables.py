@@ -113,6 +113,17 @@ class Structs(Refused):
             with self.subTest(expected=expected):
                 self.assertEqual(self.refused(structs_of, text), expected)
 
+    def test_what_is_written_as_a_whole(self) -> None:
+        inner = HEAD + "    file: inner\n    reads: all\n"
+        self.assertTrue(structs_of("table.txt", inner + "    secret: yes\n" + OUT)[0].is_secret)
+        self.assertFalse(structs_of("table.txt", inner + "    next: written; the items\n" + OUT)[0].is_secret)
+        for text, expected in [
+            (HEAD + READS + "    secret: yes\n" + OUT, "1 key: 'secret:' is said of 'inner' alone"),
+            (inner + RESULTS + OUT + NUMBERS, "1 key: 'inner' has messages that are all octets, without numbers"),
+        ]:
+            with self.subTest(expected=expected):
+                self.assertEqual(self.refused(structs_of, text), expected)
+
     def test_fields_that_are_refused(self) -> None:
         of_a_field = "5 a field has a name in ASN.1, 'field', 'optional' or 'place', and a phrase"
         of_a_number = "7 a number has a name in C, a type (u32, u64 or i64) and a phrase"
@@ -146,8 +157,8 @@ class Structs(Refused):
         for text, expected in [
             (HEAD + READS + whole + OUT, "1 key: the place 'whole' stands first, at the front alone"),
             (front + next_ + OUT, "1 key: the place 'whole' stands first, at the front alone"),
-            (front + whole + OUT, "1 key: 'next:' is said of those at the front, and of no other"),
-            (HEAD + READS + next_ + OUT, "1 key: 'next:' is said of those at the front, and of no other"),
+            (front + whole + OUT, "1 key: 'next:' is said of those at the front"),
+            (HEAD + READS + "    next: by hand der_next_key\n" + OUT, "1 key: 'next:' by hand is of those at the front"),
             (front + "    next: written\n" + whole + OUT,
              "1 'next:' says 'written; ' and what is left at first, or 'by hand ' and the name of the call"),
         ]:

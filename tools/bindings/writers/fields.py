@@ -4,7 +4,7 @@ from __future__ import annotations
 
 from collections.abc import Iterator
 
-from ..names import field_in_go, field_in_rust, field_of_c_in_go, without_links
+from ..names import field_in_go, field_in_rust, field_of_c_in_go, struct_in_go, without_links
 from ..tables.structs import Field, Struct
 from ..wrapping import WIDTH, wrapped
 
@@ -48,7 +48,7 @@ def in_go(struct: Struct) -> list[str]:
 def method_in_go(struct: Struct, name: str, place: str) -> list[str]:
     """A method of a type that is returned by its address, but for those at the front."""
     it = struct.type[0].lower()
-    head = f"func ({it} {'' if struct.is_front else '*'}{struct.type}) {name}() []byte {{"
+    head = f"func ({it} {'' if struct.is_front else '*'}{struct_in_go(struct)}) {name}() []byte {{"
     body = f"return at({it}.octets, {it}.at.{place})"
     line = f"{head} {body} }}"
     return [line] if len(line) <= LONGEST_IN_GO else [head, f"\t{body}", "}"]

@@ -2,6 +2,8 @@
 
 from __future__ import annotations
 
+from itertools import groupby
+
 from ..names import source, with_article
 from ..tables.structs import Struct
 
@@ -9,14 +11,24 @@ HEAD = ["| Call | Reads | Returned places; other results |", "|---|---|---|"]
 
 
 def calls(found: list[Struct]) -> list[str]:
-    return [*HEAD, *[row(struct) for struct in found]]
+    return [*HEAD, *[row(struct) for struct in found if not struct.is_inner]]
+
+
+def inner_calls(found: list[Struct]) -> list[str]:
+    """The calls for messages within others, as one sentence."""
+    by_standard = groupby([struct for struct in found if struct.is_inner], key=lambda struct: struct.standard)
+    parts = [f"{', '.join(map(names, of))} ({standard})" for standard, of in by_standard]
+    return [", ".join(parts) + "."] if parts else []
+
+
+def names(struct: Struct) -> str:
+    return f"`der_{struct.name}`" + (f", `{struct.next.name}`" if struct.next else "")
 
 
 def row(struct: Struct) -> str:
-    names = f"`der_{struct.name}`" + (f", `{struct.next.name}`" if struct.next else "")
     what = f"the {struct.noun} at the front" if struct.is_front else with_article(struct.noun)
     results = f"; {struct.results}" if struct.results else ""
-    return f"| {names} | {what} {source(struct)} | {places(struct)}{results} |"
+    return f"| {names(struct)} | {what} {source(struct)} | {places(struct)}{results} |"
 
 
 def places(struct: Struct) -> str:

@@ -29,8 +29,13 @@ def typedef(struct: Struct) -> list[str]:
             run = []
         if group.within:
             lines.append(f"    /* the fields of {group.within} */")
-        run += [(f"    {TYPES[it.type]} {it.name};", f"/* {it.phrase} */") for it in group.fields]
+        run += [(f"    {TYPES[it.type]} {it.name};", f"/* {phrase(it)} */") for it in group.fields]
     return [*lines, *aligned(run), f"}} {name};"]
+
+
+def phrase(field: Field) -> str:
+    """What a field is, and that it may be absent."""
+    return f"{field.phrase}; may be absent" if field.access == "optional" and "absent" not in field.phrase else field.phrase
 
 
 def assertions(struct: Struct) -> list[str]:
@@ -88,7 +93,18 @@ def in_lists(found: list[Struct]) -> list[Struct]:
 
 def walking_calls(found: list[Struct]) -> list[str]:
     """The calls that read one message after another, by a macro of c/walk.c."""
-    return [f"NEXT({struct.name}, {struct_in_c(struct)}, {len(struct.places)})" for struct in in_lists(found)]
+    macro = {True: "NEXT", False: "NEXT_ENCODING"}
+    return [f"{macro[struct.is_front]}({struct.name}, {struct_in_c(struct)}, {len(struct.places)})" for struct in in_lists(found)]
+
+
+def refusing_calls(found: list[Struct]) -> list[str]:
+    """What a test says of all calls: which octets they refuse."""
+    return [f"    REFUSES({struct_in_c(struct)}, der_{struct.name});" for struct in found]
+
+
+def leaving_calls(found: list[Struct]) -> list[str]:
+    """What a test says of the calls that read one message after another."""
+    return [f"    LEAVES({struct_in_c(struct)}, {struct.next.name});" for struct in in_lists(found) if struct.next]
 
 
 def next_calls(found: list[Struct]) -> list[str]:

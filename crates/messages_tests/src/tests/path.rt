@@ -1,4 +1,6 @@
-//! Names of certificates, each beside a constraint (RFC 5280 section 4.2.1.10).
+//! Names of certificates, each beside a constraint (RFC 5280 section 4.2.1.10), or beside a host (RFC 9525
+//! section 6.3).
 
 mod addresses;
+mod hosts;
 mod texts;

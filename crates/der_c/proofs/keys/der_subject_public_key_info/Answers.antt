@@ -1,7 +1,0 @@
-use Rattle.std.proofs.Common.{inl, refl}
-use Rattle.der_c.proofs.keys.der_subject_public_key_info.Goals as goal
-
-pub returns-in-Ok : goal.returns-in-Ok
-returns-in-Ok c =
-    let read = c.in-Ok.ensures in
-    inl (record { number = refl; unchanged = refl }, record { value = c.in-Ok.value; read = read; shown = c.subject_public_key_info_at.ensures read })

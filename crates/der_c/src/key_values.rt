@@ -1,0 +1,84 @@
+//! Keys of RSA and of elliptic curves, and encrypted ones.
+
+ghost use Rattle.der_places.specs.Layout.{LaidOut};
+ghost use Rattle.der_c.specs.Answers.{Answers};
+
+use crate::fault::Fault;
+use crate::message::read_message;
+use der_elem::Form;
+use der_pkcs::encryption::EncryptedPrivateKeyInfo;
+use der_pkix::key::{EcPrivateKey, RsaPrivateKey, RsaPublicKey};
+use der_places::Placed;
+use der_places::encryption::EncryptedPrivateKeyInfoPlaces;
+use der_places::key::{EcPrivateKeyPlaces, RsaPrivateKeyPlaces, RsaPublicKeyPlaces};
+use std::alloc::Global;
+
+/// Reads all octets as an RSAPublicKey (RFC 8017 A.1.1), and writes the byte ranges of its fields.
+///
+/// The answer is 0; or the number of the first fault, and `out` is unchanged.
+#[unsafe(no_mangle)]
+pub extern "C" fn der_rsa_public_key<'a>(
+    alloc: Global,
+    octets: &'a [u8],
+    out: &mut RsaPublicKeyPlaces,
+    fault: &mut Fault,
+) -> u32
+    ensures { Answers ⟦<RsaPublicKey<'a> as Form>⟧ octets.now
+        (λ v at. LaidOut (⟦<RsaPublicKey<'a> as Placed>⟧.layout v) 0 (⟦<RsaPublicKey<'a> as Placed>⟧.listed at) octets.now)
+        out.old out.new fault.old fault.new result }
+{
+    read_message::<RsaPublicKeyPlaces, RsaPublicKey<'a>>(alloc, octets, out, fault)
+}
+
+/// Reads all octets as an RSAPrivateKey (RFC 8017 A.1.2), and writes the byte ranges of its fields.
+///
+/// The answer is 0; or the number of the first fault, and `out` is unchanged.
+#[unsafe(no_mangle)]
+pub extern "C" fn der_rsa_private_key<'a>(
+    alloc: Global,
+    octets: &'a [u8],
+    out: &mut RsaPrivateKeyPlaces,
+    fault: &mut Fault,
+) -> u32
+    ensures { Answers ⟦<RsaPrivateKey<'a> as Form>⟧ octets.now
+        (λ v at. LaidOut (⟦<RsaPrivateKey<'a> as Placed>⟧.layout v) 0 (⟦<RsaPrivateKey<'a> as Placed>⟧.listed at) octets.now)
+        out.old out.new fault.old fault.new result }
+{
+    read_message::<RsaPrivateKeyPlaces, RsaPrivateKey<'a>>(alloc, octets, out, fault)
+}
+
+/// Reads all octets as an ECPrivateKey (RFC 5915 section 3), and writes the byte ranges of its fields.
+///
+/// The answer is 0; or the number of the first fault, and `out` is unchanged.
+#[unsafe(no_mangle)]
+pub extern "C" fn der_ec_private_key<'a>(
+    alloc: Global,
+    octets: &'a [u8],
+    out: &mut EcPrivateKeyPlaces,
+    fault: &mut Fault,
+) -> u32
+    ensures { Answers ⟦<EcPrivateKey<'a> as Form>⟧ octets.now
+        (λ v at. LaidOut (⟦<EcPrivateKey<'a> as Placed>⟧.layout v) 0 (⟦<EcPrivateKey<'a> as Placed>⟧.listed at) octets.now)
+        out.old out.new fault.old fault.new result }
+{
+    read_message::<EcPrivateKeyPlaces, EcPrivateKey<'a>>(alloc, octets, out, fault)
+}
+
+/// Reads all octets as an EncryptedPrivateKeyInfo (RFC 5958 section 3), and writes the byte ranges of its fields.
+///
+/// The answer is 0; or the number of the first fault, and `out` is unchanged.
+#[unsafe(no_mangle)]
+pub extern "C" fn der_encrypted_private_key_info<'a>(
+    alloc: Global,
+    octets: &'a [u8],
+    out: &mut EncryptedPrivateKeyInfoPlaces,
+    fault: &mut Fault,
+) -> u32
+    ensures { Answers ⟦<EncryptedPrivateKeyInfo<'a> as Form>⟧ octets.now
+        (λ v at. LaidOut (⟦<EncryptedPrivateKeyInfo<'a> as Placed>⟧.layout v) 0 (⟦<EncryptedPrivateKeyInfo<'a> as Placed>⟧.listed at) octets.now)
+        out.old out.new fault.old fault.new result }
+{
+    read_message::<EncryptedPrivateKeyInfoPlaces, EncryptedPrivateKeyInfo<'a>>(
+        alloc, octets, out, fault,
+    )
+}

@@ -1,0 +1,99 @@
+//! Files of PKCS #12.
+
+ghost use Rattle.der_places.specs.Layout.{LaidOut};
+ghost use Rattle.der_c.specs.Answers.{Answers};
+
+use crate::fault::Fault;
+use crate::message::read_message;
+use der_elem::Form;
+use der_pkcs::pkcs12::{CertBag, DigestInfo, MacData, Pfx, SafeBag};
+use der_places::Placed;
+use der_places::pkcs12::{
+    CertBagPlaces, DigestInfoPlaces, MacDataPlaces, PfxPlaces, SafeBagPlaces,
+};
+use std::alloc::Global;
+
+/// Reads all octets as a PFX (RFC 7292 section 4), and writes the byte ranges of its fields.
+///
+/// The answer is 0; or the number of the first fault, and `out` is unchanged.
+#[unsafe(no_mangle)]
+pub extern "C" fn der_pfx<'a>(
+    alloc: Global,
+    octets: &'a [u8],
+    out: &mut PfxPlaces,
+    fault: &mut Fault,
+) -> u32
+    ensures { Answers ⟦<Pfx<'a> as Form>⟧ octets.now
+        (λ v at. LaidOut (⟦<Pfx<'a> as Placed>⟧.layout v) 0 (⟦<Pfx<'a> as Placed>⟧.listed at) octets.now)
+        out.old out.new fault.old fault.new result }
+{
+    read_message::<PfxPlaces, Pfx<'a>>(alloc, octets, out, fault)
+}
+
+/// Reads all octets as a MacData (RFC 7292 section 4), and writes the byte ranges of its fields.
+///
+/// The answer is 0; or the number of the first fault, and `out` is unchanged.
+#[unsafe(no_mangle)]
+pub extern "C" fn der_mac_data<'a>(
+    alloc: Global,
+    octets: &'a [u8],
+    out: &mut MacDataPlaces,
+    fault: &mut Fault,
+) -> u32
+    ensures { Answers ⟦<MacData<'a> as Form>⟧ octets.now
+        (λ v at. LaidOut (⟦<MacData<'a> as Placed>⟧.layout v) 0 (⟦<MacData<'a> as Placed>⟧.listed at) octets.now)
+        out.old out.new fault.old fault.new result }
+{
+    read_message::<MacDataPlaces, MacData<'a>>(alloc, octets, out, fault)
+}
+
+/// Reads all octets as a DigestInfo (RFC 8017 9.2), and writes the byte ranges of its fields.
+///
+/// The answer is 0; or the number of the first fault, and `out` is unchanged.
+#[unsafe(no_mangle)]
+pub extern "C" fn der_digest_info<'a>(
+    alloc: Global,
+    octets: &'a [u8],
+    out: &mut DigestInfoPlaces,
+    fault: &mut Fault,
+) -> u32
+    ensures { Answers ⟦<DigestInfo<'a> as Form>⟧ octets.now
+        (λ v at. LaidOut (⟦<DigestInfo<'a> as Placed>⟧.layout v) 0 (⟦<DigestInfo<'a> as Placed>⟧.listed at) octets.now)
+        out.old out.new fault.old fault.new result }
+{
+    read_message::<DigestInfoPlaces, DigestInfo<'a>>(alloc, octets, out, fault)
+}
+
+/// Reads all octets as a SafeBag (RFC 7292 4.2), and writes the byte ranges of its fields.
+///
+/// The answer is 0; or the number of the first fault, and `out` is unchanged.
+#[unsafe(no_mangle)]
+pub extern "C" fn der_safe_bag<'a>(
+    alloc: Global,
+    octets: &'a [u8],
+    out: &mut SafeBagPlaces,
+    fault: &mut Fault,
+) -> u32
+    ensures { Answers ⟦<SafeBag<'a> as Form>⟧ octets.now
+        (λ v at. LaidOut (⟦<SafeBag<'a> as Placed>⟧.layout v) 0 (⟦<SafeBag<'a> as Placed>⟧.listed at) octets.now)
+        out.old out.new fault.old fault.new result }
+{
+    read_message::<SafeBagPlaces, SafeBag<'a>>(alloc, octets, out, fault)
+}
+
+/// Reads all octets as a CertBag (RFC 7292 4.2.3), and writes the byte ranges of its fields.
+///
+/// The answer is 0; or the number of the first fault, and `out` is unchanged.
+#[unsafe(no_mangle)]
+pub extern "C" fn der_cert_bag<'a>(
+    alloc: Global,
+    octets: &'a [u8],
+    out: &mut CertBagPlaces,
+    fault: &mut Fault,
+) -> u32
+    ensures { Answers ⟦<CertBag<'a> as Form>⟧ octets.now
+        (λ v at. LaidOut (⟦<CertBag<'a> as Placed>⟧.layout v) 0 (⟦<CertBag<'a> as Placed>⟧.listed at) octets.now)
+        out.old out.new fault.old fault.new result }
+{
+    read_message::<CertBagPlaces, CertBag<'a>>(alloc, octets, out, fault)
+}

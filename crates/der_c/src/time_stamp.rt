@@ -1,0 +1,119 @@
+//! Time stamps.
+
+ghost use Rattle.der_places.specs.Layout.{LaidOut};
+ghost use Rattle.der_c.specs.Answers.{Answers};
+
+use crate::fault::Fault;
+use crate::message::read_message;
+use der_elem::Form;
+use der_places::Placed;
+use der_places::time_stamp::{
+    AccuracyPlaces, MessageImprintPlaces, PkiStatusInfoPlaces, TimeStampReqPlaces,
+    TimeStampRespPlaces, TstInfoPlaces,
+};
+use der_time_stamp::time_stamp::{
+    Accuracy, MessageImprint, PkiStatusInfo, TimeStampReq, TimeStampResp, TstInfo,
+};
+use std::alloc::Global;
+
+/// Reads all octets as a TimeStampReq (RFC 3161 2.4.1), and writes the byte ranges of its fields.
+///
+/// The answer is 0; or the number of the first fault, and `out` is unchanged.
+#[unsafe(no_mangle)]
+pub extern "C" fn der_time_stamp_req<'a>(
+    alloc: Global,
+    octets: &'a [u8],
+    out: &mut TimeStampReqPlaces,
+    fault: &mut Fault,
+) -> u32
+    ensures { Answers ⟦<TimeStampReq<'a> as Form>⟧ octets.now
+        (λ v at. LaidOut (⟦<TimeStampReq<'a> as Placed>⟧.layout v) 0 (⟦<TimeStampReq<'a> as Placed>⟧.listed at) octets.now)
+        out.old out.new fault.old fault.new result }
+{
+    read_message::<TimeStampReqPlaces, TimeStampReq<'a>>(alloc, octets, out, fault)
+}
+
+/// Reads all octets as a MessageImprint (RFC 3161 2.4.1), and writes the byte ranges of its fields.
+///
+/// The answer is 0; or the number of the first fault, and `out` is unchanged.
+#[unsafe(no_mangle)]
+pub extern "C" fn der_message_imprint<'a>(
+    alloc: Global,
+    octets: &'a [u8],
+    out: &mut MessageImprintPlaces,
+    fault: &mut Fault,
+) -> u32
+    ensures { Answers ⟦<MessageImprint<'a> as Form>⟧ octets.now
+        (λ v at. LaidOut (⟦<MessageImprint<'a> as Placed>⟧.layout v) 0 (⟦<MessageImprint<'a> as Placed>⟧.listed at) octets.now)
+        out.old out.new fault.old fault.new result }
+{
+    read_message::<MessageImprintPlaces, MessageImprint<'a>>(alloc, octets, out, fault)
+}
+
+/// Reads all octets as a TimeStampResp (RFC 3161 2.4.2), and writes the byte ranges of its fields.
+///
+/// The answer is 0; or the number of the first fault, and `out` is unchanged.
+#[unsafe(no_mangle)]
+pub extern "C" fn der_time_stamp_resp<'a>(
+    alloc: Global,
+    octets: &'a [u8],
+    out: &mut TimeStampRespPlaces,
+    fault: &mut Fault,
+) -> u32
+    ensures { Answers ⟦<TimeStampResp<'a> as Form>⟧ octets.now
+        (λ v at. LaidOut (⟦<TimeStampResp<'a> as Placed>⟧.layout v) 0 (⟦<TimeStampResp<'a> as Placed>⟧.listed at) octets.now)
+        out.old out.new fault.old fault.new result }
+{
+    read_message::<TimeStampRespPlaces, TimeStampResp<'a>>(alloc, octets, out, fault)
+}
+
+/// Reads all octets as a PKIStatusInfo (RFC 3161 2.4.2), and writes the byte ranges of its fields.
+///
+/// The answer is 0; or the number of the first fault, and `out` is unchanged.
+#[unsafe(no_mangle)]
+pub extern "C" fn der_pki_status_info<'a>(
+    alloc: Global,
+    octets: &'a [u8],
+    out: &mut PkiStatusInfoPlaces,
+    fault: &mut Fault,
+) -> u32
+    ensures { Answers ⟦<PkiStatusInfo<'a> as Form>⟧ octets.now
+        (λ v at. LaidOut (⟦<PkiStatusInfo<'a> as Placed>⟧.layout v) 0 (⟦<PkiStatusInfo<'a> as Placed>⟧.listed at) octets.now)
+        out.old out.new fault.old fault.new result }
+{
+    read_message::<PkiStatusInfoPlaces, PkiStatusInfo<'a>>(alloc, octets, out, fault)
+}
+
+/// Reads all octets as a TSTInfo (RFC 3161 2.4.2), and writes the byte ranges of its fields.
+///
+/// The answer is 0; or the number of the first fault, and `out` is unchanged.
+#[unsafe(no_mangle)]
+pub extern "C" fn der_tst_info<'a>(
+    alloc: Global,
+    octets: &'a [u8],
+    out: &mut TstInfoPlaces,
+    fault: &mut Fault,
+) -> u32
+    ensures { Answers ⟦<TstInfo<'a> as Form>⟧ octets.now
+        (λ v at. LaidOut (⟦<TstInfo<'a> as Placed>⟧.layout v) 0 (⟦<TstInfo<'a> as Placed>⟧.listed at) octets.now)
+        out.old out.new fault.old fault.new result }
+{
+    read_message::<TstInfoPlaces, TstInfo<'a>>(alloc, octets, out, fault)
+}
+
+/// Reads all octets as an Accuracy (RFC 3161 2.4.2), and writes the byte ranges of its fields.
+///
+/// The answer is 0; or the number of the first fault, and `out` is unchanged.
+#[unsafe(no_mangle)]
+pub extern "C" fn der_accuracy<'a>(
+    alloc: Global,
+    octets: &'a [u8],
+    out: &mut AccuracyPlaces,
+    fault: &mut Fault,
+) -> u32
+    ensures { Answers ⟦<Accuracy as Form>⟧ octets.now
+        (λ v at. LaidOut (⟦<Accuracy as Placed>⟧.layout v) 0 (⟦<Accuracy as Placed>⟧.listed at) octets.now)
+        out.old out.new fault.old fault.new result }
+{
+    read_message::<AccuracyPlaces, Accuracy>(alloc, octets, out, fault)
+}

@@ -1,0 +1,9 @@
+use Rattle.std.proofs.Common.{◌≡◌, length}
+use Rattle.der_path.specs.Hosts.{from_period}
+use Rattle.der_path.proofs.host.from_period.Given as goal
+
+abbrev pub invariant-each : goal.invariant-each
+invariant-each l = from_period l.left.now ≡ from_period l.host.now
+
+abbrev pub decreases-each : goal.decreases-each
+decreases-each l = length l.left.now
