@@ -150,8 +150,13 @@ static void compare_usage(der_place value, X509 *x)
         return;
     for (i = 0; i < 9; i++)
         wanted |= (uint32_t)(ASN1_BIT_STRING_get_bit(want, i) != 0) << i;
-    same_number("keyUsage is read", der_named_bits(octets + value.offset, value.length, &bits, &fault), 0);
-    same_number("keyUsage", bits, wanted);
+    if (der_named_bits(octets + value.offset, value.length, &bits, &fault) == DER_NONCANONICAL) {
+        /* as that of Trustwave Global ECC P256 Certification Authority: X.690 11.2.2 forbids a bit 0 at the end */
+        const uint8_t *end = octets + value.offset + value.length - 1;
+        same_number("the last bit", *end >> octets[value.offset + 2] & 1, 0);
+    } else {
+        same_number("keyUsage", bits, wanted);
+    }
     ASN1_BIT_STRING_free(want);
 }
 

@@ -111,7 +111,7 @@ static void identifiers(void)
 
 static void hosts(void)
 {
-    static const uint8_t list[] = {0x30, 22, 0x82, 3, 'a', '.', 'b', 0x82, 5, '*', '.', 'c', '.', 'd', 0x87, 4, 127, 0, 0, 1, 0x82, 1, 'e'};
+    static const uint8_t list[] = {0x30, 21, 0x82, 3, 'a', '.', 'b', 0x82, 5, '*', '.', 'c', '.', 'd', 0x87, 4, 127, 0, 0, 1, 0x82, 1, 'e'};
     static const struct {
         const char *host;
         uint32_t is_named;
@@ -138,8 +138,8 @@ static void hosts(void)
     spoilt[0] = 0x30;
     spoilt[1] = 5;
     check(der_names_host(spoilt, sizeof spoilt, (const uint8_t *)"a.b", 3, &out, &fault) == DER_TRAILING_DATA && out == 7, "octets are left");
-    spoilt[1] = 22;
-    spoilt[21] = 0x8a;
+    spoilt[1] = 21;
+    spoilt[20] = 0x8a;
     check(der_names_host(spoilt, sizeof spoilt, (const uint8_t *)"a.b", 3, &out, &fault) == DER_TAG_UNEXPECTED && out == 7, "no name");
     check(der_names_host(NULL, 1, (const uint8_t *)"a.b", 3, &out, NULL) == DER_NULL_POINTER && out == 7, "no octets");
     check(der_names_host(list, sizeof list, NULL, 3, &out, NULL) == DER_NULL_POINTER && out == 7, "no host");

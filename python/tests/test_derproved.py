@@ -327,7 +327,7 @@ class Objects(unittest.TestCase):
         return [it for it in found if isinstance(it, type) and issubclass(it, derproved._der.Message)]
 
     def test_no_object_is_there_before_it_was_read(self) -> None:
-        self.assertEqual(len(self.classes()), 15)
+        self.assertEqual(len(self.classes()), 57)
         for it in self.classes():
             for arguments in [(), (KEY, KEY), ("text",), (None,)]:
                 self.assertRaises(TypeError, it, *arguments)

@@ -197,7 +197,7 @@ class Values(unittest.TestCase):
 
     def test_numbers(self):
         self.assertEqual(unsigned_integer(bytes.fromhex("0209 00ffffffffffffffff")), (1 << 64) - 1)
-        for octets, number in (("0209 010000000000000000", 9), ("02 01 80", 13), ("0202 0001", 8)):
+        for octets, number in (("0209 010000000000000000", 7), ("02 01 80", 13), ("0202 0001", 8)):
             with self.assertRaises(derproved.Error) as caught:
                 unsigned_integer(bytes.fromhex(octets))
             self.assertEqual(caught.exception.number, number)

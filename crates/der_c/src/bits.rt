@@ -17,6 +17,13 @@ pub(crate) fn number_of_flags(flags: &[bool]) -> u32
     bits
 }
 
+/// A truth value as 1 or 0.
+pub(crate) fn number_of_flag(flag: bool) -> u32
+    ensures { result ≡ bit flag }
+{
+    u32::from(flag)
+}
+
 /// A flag before those that a number has.
 fn with_flag(bits: u32, flag: bool) -> u32
     ensures { bit flag + 2 * bits < 2 ^ 32 → result ≡ bit flag + 2 * bits }

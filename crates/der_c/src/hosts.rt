@@ -4,6 +4,7 @@ ghost use Rattle.std.specs.Prelude.{◌≡◌};
 ghost use Rattle.der_path.specs.Hosts.{names_host};
 ghost use Rattle.der_c.specs.Bits.{bit};
 
+use crate::bits::number_of_flag;
 use der_path::names_host;
 
 /// Whether the contents octets of a dNSName name a host: 1 or 0.
@@ -11,5 +12,5 @@ use der_path::names_host;
 pub extern "C" fn der_name_is_of_host(name: &[u8], host: &[u8]) -> u32
     ensures { result ≡ bit (names_host name.now host.now) }
 {
-    u32::from(names_host(name, host))
+    number_of_flag(names_host(name, host))
 }

@@ -6,6 +6,7 @@ ghost use Rattle.der_verify.specs.Names.{AreParts, same_name};
 ghost use Rattle.der_c.specs.Answers.{AnswersPair};
 ghost use Rattle.der_c.specs.Bits.{bit};
 
+use crate::bits::number_of_flag;
 use crate::fault::{Fault, refuse};
 use der_elem::{Form, FromDer};
 use der_pkix::name::{AttributeTypeAndValue, Name, RelativeDistinguishedName};
@@ -39,6 +40,6 @@ pub extern "C" fn der_names_match<'a>(
         Ok(name) => name,
         Err(error) => return refuse(error, fault),
     };
-    *out = u32::from(names_match(alloc, &one, &other));
+    *out = number_of_flag(names_match(alloc, &one, &other));
     0
 }

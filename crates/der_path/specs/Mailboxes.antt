@@ -1,5 +1,5 @@
 -- Internet mail addresses and their constraints (RFC 5280 sections 4.2.1.10 and 7.5).
-use Rattle.std.specs.Prelude.{ℕ, ◌==◌, ◌-◌, nat_eq, nat_lt, List, length, take, drop, Bool, true, false, not, ◌&&◌, ◌||◌, if◌then◌else◌, Option, Some, None}
+use Rattle.std.specs.Prelude.{ℕ, ◌==◌, ◌-◌, nat_eq, nat_lt, List, length, take, drop, Bool, not, ◌&&◌, if◌then◌else◌, Option, Some, None}
 use Rattle.std.specs.List.{suffix_len}
 use Rattle.std.specs.Cmp.Lexicographic.{pointwise}
 use Rattle.der_path.specs.declared.placement.Placement.{Placement}
