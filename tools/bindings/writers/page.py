@@ -2,8 +2,6 @@
 
 from __future__ import annotations
 
-from itertools import groupby
-
 from ..names import source, with_article
 from ..tables.structs import Struct
 
@@ -16,8 +14,7 @@ def calls(found: list[Struct]) -> list[str]:
 
 def inner_calls(found: list[Struct]) -> list[str]:
     """The calls for messages within others, as one sentence."""
-    by_standard = groupby([struct for struct in found if struct.is_inner], key=lambda struct: struct.standard)
-    parts = [f"{', '.join(map(names, of))} ({standard})" for standard, of in by_standard]
+    parts = [names(struct) for struct in found if struct.is_inner]
     return [", ".join(parts) + "."] if parts else []
 
 
