@@ -21,7 +21,7 @@ position_after old mid n e = ap (λ s. s.position) e
 left_after : (old mid : ReaderState) (n : ℕ) → mid ≡ after_read old n → rest mid ≡ drop n (rest old)
 left_after old mid n e = ap rest e ∙ rest-after_read old n
 
--- what is read of the length, once the tag has been read
+-- reading the length, after the tag has been read
 module _ {old mid : ReaderState} {t : Tag} (tag : HeadRead read_tag (identifier t) old mid t) where
   length_seen : read_length (old.position + length (identifier t)) (drop (length (identifier t)) (rest old)) ≡ read_length mid.position (rest mid)
   length_seen =

@@ -1,4 +1,4 @@
--- How many octets a length takes after the one that counts them.
+-- The number of octets of a length after the octet that counts them.
 use Rattle.std.proofs.Common.{◌≡◌, ℕ, ◌+◌, ◌*◌, ◌/◌, ◌%◌, ◌∷◌, ◌++◌, append_assoc, nat_lt, true, false, ◌<◌, ◌≤◌, ◌^◌, List, [], length, sym, ap, ◌∙◌, arith, lit≤}
 use Rattle.std.specs.Int.Digits.{digits_of}
 use Rattle.std.proofs.Math.Nat.{div-eq_of_lt}
@@ -11,7 +11,7 @@ pub one_octet : (n : ℕ) → 0 < n → n < 256 → length (digits_of 256 n) ≡
 one_octet n some small =
     length-digits_of_step 256 n (lit≤ tt) some ∙ ap (λ q. length (digits_of 256 q) + 1) (div-eq_of_lt small)
 
--- one octet more than a 256th has
+-- a number has one octet more than a 256th of it
 pub more_octets : (n k : ℕ) → 256 ≤ n → length (digits_of 256 (n / 256)) ≡ k → length (digits_of 256 n) ≡ k + 1
 more_octets n k some e = let more : 0 < n = omega arith in length-digits_of_step 256 n (lit≤ tt) more ∙ ap (λ c. c + 1) e
 
@@ -24,7 +24,7 @@ three_octets n some small = more_octets n 2 (omega arith) (two_octets (n / 256) 
 pub four_octets : (n : ℕ) → 256 * 256 * 256 ≤ n → n < 2 ^ 32 → length (digits_of 256 n) ≡ 4
 four_octets n some small = more_octets n 3 (omega arith) (three_octets (n / 256) (omega arith) (omega arith))
 
--- the last octet after those before it
+-- appending the last octet to those before it
 pub digits_pushed : (old mid new : List ℕ) (n : ℕ) → 0 < n → mid ≡ old ++ digits_of 256 (n / 256) → new ≡ mid ++ ((n % 256) ∷ []) → new ≡ old ++ digits_of 256 n
 digits_pushed old mid new n some e f =
     f ∙ ap (λ c. c ++ ((n % 256) ∷ [])) e ∙ append_assoc old (digits_of 256 (n / 256)) ((n % 256) ∷ []) ∙ ap (λ c. old ++ c) (sym (digits_of_step 256 n (lit≤ tt) some))

@@ -11,7 +11,7 @@ use Rattle.der_tlv.specs.HeaderReading.{read_long_length}
 use Rattle.der_tlv.specs.Reading.{OctetRead}
 use Rattle.der_tlv.proofs.ReaderStates.{rest-after_read}
 
--- the octets that a reader has read since it was `old`, all of them below 256, and their number
+-- the octets that a reader has read since its state was `old`, each below 256, and the number that they write
 pub record OctetsSoFar (old now : ReaderState) (count n : ℕ) : Type 0 where
   pub ready : old.failed ≡ false
   pub there : count ≤ length (rest old)
@@ -47,7 +47,7 @@ one_more old now new count n octet so_far read small =
       below = subst (AllBelowBase 256) (sym taken) (all_below-append 256 (take count (rest old)) (octet ∷ []) so_far.below (small, tt));
     }
 
--- so many octets fit so many octets
+-- `count` octets write a number below 256 ^ count
 pub so_far-lt : {old now : ReaderState} {count n : ℕ} → OctetsSoFar old now count n → n < 256 ^ count
 so_far-lt {old} {count} {n} so_far =
     let l : length (take count (rest old)) ≡ count = omega (arith, length-take count (rest old), so_far.there) in
@@ -64,7 +64,7 @@ missing {old} {now} {done} so_far count more none kind e =
     let at : now.position ≡ old.position + length (rest old) = ap (λ s. s.position) so_far.after ∙ ap (λ k. old.position + k) (sym all) in
     rw (so_far.ready, short) (ap Err (sym (e ∙ ap (λ p. read_fault_at p 1 0) at)))
 
--- three octets leave room for one more
+-- three octets leave space for one more
 pub room_for_more : (k n : ℕ) → k ≤ 3 → n < 256 ^ k → n < 2 ^ 24
 room_for_more zero n h k = omega (arith, k)
 room_for_more (suc zero) n h k = omega (arith, k)

@@ -18,7 +18,7 @@ use Rattle.der_tlv.proofs.ReaderStates.{rest_first}
 use Rattle.der_tlv.proofs.Lengths.{after_more}
 use Rattle.der_tlv.proofs.ShortReads.{short_tag_read}
 
--- one octet of a length of 128 and more
+-- the length octets of a length from 128 to 255
 pub one_octet : (first last : ℕ) → 128 ≤ first → first < 256 → take 2 (129 ∷ first ∷ last ∷ []) ≡ length_octets first
 unfolding length_octets
 one_octet first last long small =
@@ -27,7 +27,7 @@ one_octet first last long small =
     let ds : digits_of 256 first ≡ first ∷ [] = ap (digits_of 256) n ∙ digits_of-number 256 first [] (lit≤ tt) (omega arith) (small, tt) in
     rw (e, ds) refl
 
--- two octets
+-- the length octets of a length from 256 to 65535
 pub two_octets : (first last n : ℕ) → 0 < first → first < 256 → last < 256 → n ≡ first * 256 + last → take 3 (130 ∷ first ∷ last ∷ []) ≡ length_octets n
 unfolding length_octets
 two_octets first last n some small below is =
@@ -40,7 +40,7 @@ two_octets first last n some small below is =
 octet_next : (s : ReaderState) → IsReaderState s → s.position < s.end → {x : ℕ} → get_or s.input s.position 0 ≡ x → rest s ≡ x ∷ rest (after_read s 1)
 octet_next s sound more is = rest_first s sound more ∙ ap (λ x. x ∷ rest (after_read s 1)) is
 
--- the identifier of a tag of one octet
+-- an identifier of one octet
 identifier_is : {old : ReaderState} {x : ℕ} {t : Tag} {others : List ℕ} → rest old ≡ x ∷ others → HeadRead read_tag (identifier t) old (after_read old 1) t → identifier t ≡ x ∷ []
 identifier_is {old} {x} {t} {others} left head =
     let position : old.position + 1 ≡ old.position + length (identifier t) = ap (λ (s : ReaderState). s.position) head.after in

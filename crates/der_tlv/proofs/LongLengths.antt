@@ -1,4 +1,4 @@
--- A length of 128 and more, once its octets are read.
+-- A length of at least 128, after its octets are read.
 use Rattle.std.proofs.Common.{◌≡◌, ◌≢◌, ℕ, zero, suc, ◌+◌, ◌-◌, ◌<◌, ◌≤◌, Bool, true, false, List, [], ◌∷◌, length, take, get_or, Ok, Err, refl, sym, ap, ◌∙◌, subst, arith, nat_lt, nat_eq, ◌⊎◌, inl, inr, lit≤}
 use Rattle.std.proofs.lemmas.List.{length-take}
 use Rattle.std.proofs.lemmas.Bool.{false_from_ne_true}
@@ -16,7 +16,7 @@ use Rattle.der_tlv.specs.Reading.{OctetRead, Refuses, Refused, HeadFault, HeadRe
 use Rattle.der_tlv.proofs.Refusals.{refused_at_first, refused_since, refused_octet, went_on}
 use Rattle.der_tlv.proofs.Lengths.{OctetsSoFar, no_octets, missing}
 
--- an octet of them is missing
+-- one of the octets is missing
 pub octet_missing_at : {old now new : ReaderState} {done n : ℕ} → OctetsSoFar old now done n → (count : ℕ) → done < count → {kind : ErrorKind} → Refuses now new kind (read_fault now 1) × (now.failed ≡ false → rest now ≡ []) × (now.failed ≡ false → kind ≡ read_fault_at now.position 1 0) → HeadFault (read_long_length count) old new kind
 octet_missing_at so_far count more (refused, none, fault) =
     let ready = ap (λ s. s.failed) so_far.after ∙ so_far.ready in
@@ -26,7 +26,7 @@ pub first_missing : (old new : ReaderState) (count : ℕ) → 0 < count → {kin
 first_missing old new count more (refused, none, fault) =
     refused_at_first (read_long_length count) old new _ refused (λ ready. let m = missing (no_octets old ready) count more (none ready) _ (fault ready) in let n = rw ready at m in n)
 
--- the octets of a length, of which the first is known
+-- the octets of a length, with a known first octet
 pub record LongOctets (old : ReaderState) (count n first : ℕ) : Type 0 where
   pub ready : old.failed ≡ false
   pub there : count ≤ length (rest old)
@@ -46,7 +46,7 @@ long_octets {old} {read} {count} {first} so_far told some =
 enough : {old : ReaderState} {count n first : ℕ} → LongOctets old count n first → nat_lt (length (rest old)) count ≡ false
 enough octets = let h = octets.there in grind (arith, nat_tests)
 
--- a length that does not begin with 00 and is at least 128 is in its fewest octets
+-- a length that does not begin with 00 and is at least 128 has the fewest octets
 pub digits-of-long : {old : ReaderState} {count n first : ℕ} → LongOctets old count n first → 0 < first → digits_of 256 n ≡ take count (rest old)
 digits-of-long {old} {count} {n} {first} octets some =
     ap (digits_of 256) (octets.number ∙ ap (number_from_digits 256) octets.begins) ∙ digits_of-number 256 first octets.others (lit≤ tt) some (subst (AllBelowBase 256) octets.begins octets.below) ∙ sym octets.begins
@@ -102,7 +102,7 @@ differs {old} {count} {n} octets more h = at (nat_lt n 128) refl
       | inr small ↦ let b : n < 128 = small in absurd (grind (arith, nat_tests))
     ]
 
--- a length that begins with 00 or is below 128 could be said by fewer octets
+-- a length that begins with 00 or is below 128 has an encoding in fewer octets
 pub not_fewest : {old new : ReaderState} {count n first : ℕ} → LongOctets old count n first → (first ≡ 0) ⊎ (n < 128) → {kind : ErrorKind} → kind ≡ Overlength → Refused old new kind → HeadFault (read_long_length count) old new kind
 unfolding read_long_length
 not_fewest {old} {new} {count} {n} octets more e refused =

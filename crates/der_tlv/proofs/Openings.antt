@@ -1,4 +1,4 @@
--- A header of two octets, with what stands behind it.
+-- A header of two octets, with the octets after it.
 use Rattle.std.proofs.Common.{◌≡◌, ℕ, ◌+◌, ◌<◌, ◌≤◌, false, true, [], ◌∷◌, ◌++◌, length, take, get_or, subst, List, Some, drop, refl, sym, ap, ◌∙◌, arith}
 use Rattle.std.proofs.lemmas.Bool.Decides.{nat_tests}
 use Rattle.std.proofs.Math.Seq.{take-append_seam}
@@ -19,7 +19,7 @@ use Rattle.der_tlv.specs.ShortTags.{short_tag}
 use Rattle.der_tlv.proofs.ShortHeaders.{short_header}
 use Rattle.der_tlv.proofs.ShortReads.{short_header_read}
 
--- two octets that are a header with this tag, and so many octets behind them
+-- two octets that are a header with this tag, and n octets after them
 pub short_opened : {old new : ReaderState} {t : Tag} {x n end : ℕ} → IsReaderState old → old.failed ≡ false → old.position + 2 + n ≤ old.end → get_or old.input old.position 0 ≡ x → get_or old.input (old.position + 1) 0 ≡ n → x ≡ first_octet (class_of t) (is_constructed t) (low_bits (number_of t)) → number_of t < 31 → n < 128 → new ≡ after_nest (after_read old 2) n → end ≡ old.end → Opened t old new (header t n) end
 short_opened {old = old} {new = new} {t = t} {x = x} {n = n} {end = end} sound ready room tag_octet length_octet is_first small short after end_is =
     let mid : ReaderState = after_read old 1 in
@@ -44,7 +44,7 @@ short_opened {old = old} {new = new} {t = t} {x = x} {n = n} {end = end} sound r
     can_read_there : old.failed ≡ false → can_read (after_read old 2) n ≡ true
     can_read_there e = rw e (grind (arith, nat_tests))
 
--- two octets that are a header, and so many octets behind them
+-- two octets that are a header, and n octets after them
 pub short_contents : {old new : ReaderState} {t : Tag} {x n : ℕ} {contents : List ℕ} → IsReaderState old → old.failed ≡ false → old.position + 2 + n ≤ old.end → get_or old.input old.position 0 ≡ x → get_or old.input (old.position + 1) 0 ≡ n → x < 256 → short_tag x ≡ Some t → n < 128 → new ≡ after_read (after_read old 2) n → contents ≡ take n (drop (old.position + 2) old.input) → ContentsRead old new (header t n) contents
 short_contents {old = old} {new = new} {t = t} {n = n} {contents = contents} sound ready room tag_octet length_octet small tag short after contents_are =
     let behind : ReaderState = after_read old 2 in

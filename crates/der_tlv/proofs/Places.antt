@@ -1,4 +1,4 @@
--- Octets that are put, and written, before those that a buffer holds.
+-- Octets that are put or written before the octets that a buffer holds.
 use Rattle.std.proofs.Common.{◌≡◌, ℕ, ◌+◌, ◌-◌, ◌≤◌, List, ◌++◌, length, take, drop, false, refl, ap, ap₂, sym, ◌∙◌, arith}
 use Rattle.std.proofs.lemmas.List.{drop-append-le, drop-take, length-take-le, drop-drop, drop_at}
 use Rattle.std.proofs.lemmas.Slice.{take-put_mid, drop-put_mid}
@@ -6,7 +6,7 @@ use borrow.Rule.Slice.PartMut.{put_mid}
 use Rattle.der_tlv.specs.Writing.{Wrote}
 use Rattle.der_tlv.specs.WritingBack.{back_state}
 
--- the end of a block of which the whole was put
+-- the end of a block, after the whole block was put
 pub end_put : (buffer block part : List ℕ) (end len : ℕ) → part ≡ block → 8 ≤ end → end ≤ length buffer → len ≤ 8 → length block ≡ 8 → drop (end - len) (put_mid (end - 8) (end - (end - 8)) buffer part) ≡ drop (8 - len) block ++ drop end buffer
 end_put buffer block part end len same far inside few size =
     let at = end - 8 in
@@ -23,7 +23,7 @@ end_put buffer block part end len same far inside few size =
     ∙ drop-append-le more block behind (omega (arith, size))
     ∙ ap (λ b. drop more block ++ b) (drop-drop count at buffer ∙ ap (λ n. drop n buffer) whole)
 
--- octets that are written behind those of the gap
+-- octets that are written into the gap, after those written there before
 module _ (buffer octets part : List ℕ) (start gap filled : ℕ) (same : part ≡ octets) (inside : start ≤ length buffer) (within : gap ≤ start) (room : filled + length octets ≤ gap) where
   taken_more : take (filled + length octets) (drop (start - gap) (put_mid (start - gap + filled) (start - gap + filled + length octets - (start - gap + filled)) buffer part)) ≡ take filled (drop (start - gap) buffer) ++ octets
   taken_more =

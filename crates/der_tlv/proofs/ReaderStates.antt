@@ -1,4 +1,4 @@
--- What is left in a reader, after each of its calls.
+-- The octets that are left in a reader after each of its calls.
 use Rattle.std.proofs.Common.{◌≡◌, ℕ, ◌+◌, ◌≤◌, ◌<◌, ◌∷◌, get_or, length, take, drop, true, sym, ap, ◌∙◌, arith, [], nat_eq, IsTrue, ◌↔◌, not, nat_le}
 use Rattle.std.proofs.lemmas.List.{nil_from_length, drop-drop, drop-take, take-take, length-take, length-drop, drop_more, get_or-take}
 use Rattle.std.proofs.lemmas.Bool.Decides.{nat_tests}
@@ -18,7 +18,7 @@ rest-after_nest s n h =
 pub room_from_can_read : (s : ReaderState) (n : ℕ) → can_read s n ≡ true → s.position + n ≤ s.end
 room_from_can_read s n h = leb-true (s.position + n) s.end (and_parts (not s.failed) (nat_le (s.position + n) s.end) h).1
 
--- the position is the end where nothing is left
+-- the position is the end exactly when no octet is left
 pub finished : (s : ReaderState) → IsReaderState s → (position end : ℕ) → position ≡ s.position → end ≡ s.end → IsTrue (nat_eq position end) ↔ (rest s ≡ [])
 finished s h position end p q =
     let l = length-rest s h in
@@ -27,7 +27,7 @@ finished s h position end p q =
 pub end_reached : (s : ReaderState) → IsReaderState s → rest s ≡ [] → s.position ≡ s.end
 end_reached s h e = let l = length-rest s h in let n = ap length e in omega arith
 
--- the octet that comes next
+-- the next octet
 pub rest_first : (s : ReaderState) → IsReaderState s → s.position < s.end → rest s ≡ get_or s.input s.position 0 ∷ rest (after_read s 1)
 rest_first s h p =
     let i = h.inside in

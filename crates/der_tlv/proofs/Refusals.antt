@@ -1,4 +1,4 @@
--- What stands after a refusal, from what stood where the fault was found.
+-- The state after a refusal, from the state in which the error was found.
 use Rattle.std.proofs.Common.{◌≡◌, ℕ, ◌≤◌, List, Bool, true, false, Result, Err, ap, sym, ◌∙◌, arith, refl}
 use Rattle.der_tlv.specs.declared.error.ErrorKind.{ErrorKind}
 use Rattle.der_tlv.specs.declared.error.ErrorKind.TheVariants.{Failed}
@@ -6,7 +6,7 @@ use Rattle.der_tlv.specs.ReaderState.{ReaderState, rest, unless_failed, after_re
 use Rattle.der_tlv.specs.Reading.{Refused, Passed, Refuses, OctetsRefused, HeadFault}
 use Rattle.der_tlv.proofs.ReaderStates.{room_from_can_read}
 
--- a reader that has gone on, or shows fewer octets
+-- a reader that has read further, or shows fewer octets
 pub record Went (old mid : ReaderState) : Type 0 where
   pub input : mid.input ≡ old.input
   pub rules : mid.rules ≡ old.rules
@@ -39,11 +39,11 @@ went_further a b =
     let p = a.onward in let q = b.onward in let r = a.narrower in let t = b.narrower in
     record { input = b.input ∙ a.input; rules = b.rules ∙ a.rules; onward = omega arith; narrower = omega arith }
 
--- a reader that had not failed has not failed
+-- no reader has failed and not failed
 pub ready_not_failed : {A : Type 0} {b : Bool} → b ≡ false → b ≡ true → A
 ready_not_failed e h = let k : true ≡ false = sym h ∙ e in absurd (cc)
 
--- a fault that is found where the reader stands
+-- an error that is found at the reader's position
 pub refused_here : {old new : ReaderState} {kind : ErrorKind} → new ≡ after_fault old → (old.failed ≡ true → kind ≡ Failed) → Refused old new kind
 refused_here {old} e late =
     let p = ap (λ (s : ReaderState). s.position) e in
@@ -57,7 +57,7 @@ refused_here {old} e late =
       again = λ h. (late h, e ∙ ap (λ b. record old { failed = b }) (sym h));
     }
 
--- a refusal of a reader that had gone on
+-- a refusal after the reader has read further
 pub refused_since : {old mid new : ReaderState} {kind : ErrorKind} → old.failed ≡ false → Went old mid → Refused mid new kind → Refused old new kind
 refused_since ready went refused =
     let p = went.onward in let q = went.narrower in let r = refused.onward in let t = refused.narrower in
@@ -82,26 +82,26 @@ passed_read n ready e =
       onward = omega arith;
     }
 
--- a fault that is found after what was read
+-- an error that is found after a successful read
 pub refused_past : {old mid new : ReaderState} {kind : ErrorKind} → Passed old mid → new ≡ after_fault mid → Refused old new kind
 refused_past passed e = refused_since passed.ready (went_past passed) (refused_here e (λ h. ready_not_failed passed.still h))
 
--- a fault that is found where a reader stands that had gone on
+-- an error that is found at the position of a reader that has read further
 pub refused_at : {old mid new : ReaderState} {kind : ErrorKind} → old.failed ≡ false → Went old mid → mid.failed ≡ false → new ≡ after_fault mid → Refused old new kind
 refused_at ready went still e = refused_since ready went (refused_here e (λ h. ready_not_failed still h))
 
--- what a reader that had failed answers
+-- the error of a reader that had failed
 pub failed_fault : (s : ReaderState) (n : ℕ) → s.failed ≡ true → read_fault s n ≡ Failed
 failed_fault s n e = rw e refl
 
--- a refusal of an octet, and of octets
+-- a refusal to read one octet, and to read octets
 pub refused_octet : {old new : ReaderState} {kind : ErrorKind} → Refuses old new kind (read_fault old 1) → Refused old new kind
 refused_octet {old} refused = refused_here refused.after (λ e. refused.fault_is ∙ failed_fault old 1 e)
 
 pub refused_octets : {old new : ReaderState} {n : ℕ} {kind : ErrorKind} → OctetsRefused old new n kind → Refused old new kind
 refused_octets {old} {n = n} refused = refused_here refused.after (λ e. refused.fault_is ∙ failed_fault old n e)
 
--- a refusal of the first octet is one of what should have been read, if that needs an octet
+-- a refusal to read the first octet is a refusal of the value, if the value needs an octet
 pub refused_at_first : {A : Type 0} (parse : ℕ → List ℕ → Result (ℕ × A) ErrorKind) (old new : ReaderState) (kind : ErrorKind) → Refuses old new kind (read_fault old 1) → (old.failed ≡ false → parse old.position (rest old) ≡ Err kind) → HeadFault parse old new kind
 refused_at_first parse old new kind refused fault = record { fault_is = at old.failed refl; reader = refused_octet refused }
   where

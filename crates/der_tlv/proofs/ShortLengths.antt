@@ -32,7 +32,7 @@ no_length {old} {new} {kind} (refused, none, fault) =
     at_zero : (p : ℕ) → read_fault_at (p + 0) 1 0 ≡ read_fault_at p 1 0
     at_zero p = ap (λ q. read_fault_at q 1 0) (let e : p + 0 ≡ p = omega arith in e)
 
--- a first octet that no length has
+-- a first octet that begins no length octets
 pub bad_length : {old mid new : ReaderState} {x : ℕ} → OctetRead old mid x → (fault : ErrorKind) → ((p : ℕ) (xs : List ℕ) → read_length p (x ∷ xs) ≡ Err fault) → {kind : ErrorKind} → kind ≡ fault → new ≡ after_fault mid → HeadFault read_length old new kind
 bad_length read fault bad e after =
     record { fault_is = rw (read.ready, read.first) (bad _ _ ∙ ap Err (sym e)); reader = refused_at read.ready (went_on _ read.after) (ap (λ s. s.failed) read.after ∙ read.ready) after }

@@ -16,22 +16,22 @@ pub data NumberRead (old now : ReaderState) (first n : ℕ) : Type 0 where
   in_first : OctetRead old now first → first < 256 → first % 32 < 31 → n ≡ first % 32 → NumberRead old now first n
   behind : (mid : ReaderState) → OctetRead old mid first → first < 256 → first % 32 ≡ 31 → HeadRead read_number (number_octets n) mid now n → 31 ≤ n → NumberRead old now first n
 
--- the number stands in the first octet
+-- the number is in the first octet
 pub number_in_first : {old mid now : ReaderState} {first n : ℕ} → OctetRead old mid first → first < 256 → first % 32 < 31 → n ≡ first % 32 → now ≡ mid → NumberRead old now first n
 number_in_first {old = old} {first = first} {n = n} read small low is same = subst (λ s. NumberRead old s first n) (sym same) (in_first read small low is)
 
--- the number stands after the first octet
+-- the number is after the first octet
 pub number_following : {old mid last now : ReaderState} {first m n : ℕ} → OctetRead old mid first → first < 256 → 31 ≤ first % 32 → HeadRead read_number (number_octets m) mid last m → 31 ≤ m → n ≡ m → now ≡ last → NumberRead old now first n
 number_following {old = old} {mid = mid} {last = last} {now = now} {first = first} {m = m} {n = n} read small low number great is same =
     subst (λ s. NumberRead old s first n) (sym same) (subst (λ k. NumberRead old last first k) (sym is) (behind mid read small (omega arith) number great))
 
--- no first octet
+-- the first octet is missing
 pub first_missing : {old new : ReaderState} {kind : ErrorKind} → Refuses old new kind (read_fault old 1) × (old.failed ≡ false → rest old ≡ []) × (old.failed ≡ false → kind ≡ read_fault_at old.position 1 0) → HeadFault read_tag old new kind
 unfolding read_tag
 first_missing {old = old} {new = new} {kind = kind} (refused, none, fault) =
     refused_at_first read_tag old new kind refused (λ e. let k : old.position + 0 ≡ old.position = omega arith in ap (read_tag old.position) (none e) ∙ ap (λ p. Err (read_fault_at p 1 0)) k ∙ ap (λ x. Err x) (sym (fault e)))
 
--- what reading comes to, from the number on
+-- the result of reading, from the number on
 parsed_number : {old now : ReaderState} {first n : ℕ} → NumberRead old now first n → (r : Result Tag ErrorKind) → tag_of_octets first n ≡ r → (count : ℕ) × (read_tag old.position (rest old) ≡ counted_tag count r)
 parsed_number {old = old} {now = now} {first = first} {n = n} (in_first read small low is) r e =
     (1, ap (read_tag old.position) read.first ∙ read_tag-short old.position first (rest now) (λ k. omega arith) ∙ ap (λ k. counted_tag 1 (tag_of_octets first k)) (sym is) ∙ ap (counted_tag 1) e)
@@ -44,7 +44,7 @@ ready_then : {old now : ReaderState} {first n : ℕ} → NumberRead old now firs
 ready_then (in_first read small low is) = read.ready
 ready_then (behind mid read small low number great) = read.ready
 
--- and goes on
+-- the reader has read further
 went_with : {old now : ReaderState} {first n : ℕ} → NumberRead old now first n → Went old now
 went_with (in_first read small low is) = went_on _ read.after
 went_with (behind mid read small low number great) = went_further (went_on _ read.after) (went_on _ number.after)
@@ -53,14 +53,14 @@ still_ready : {old now : ReaderState} {first n : ℕ} → NumberRead old now fir
 still_ready (in_first read small low is) = ap (λ (s : ReaderState). s.failed) read.after ∙ read.ready
 still_ready (behind mid read small low number great) = ap (λ (s : ReaderState). s.failed) number.after ∙ number.ready
 
--- no tag of these octets
+-- these octets are the identifier of no tag
 pub tag_refused : {old now new : ReaderState} {first n : ℕ} {kind : ErrorKind} → NumberRead old now first n → tag_of_octets first n ≡ Err kind → new ≡ after_fault now → HeadFault read_tag old new kind
 tag_refused {old = old} {kind = kind} number e after = record {
   fault_is = seen_ready read_tag old (ready_then number) ∙ (parsed_number number (Err kind) e).1;
   reader = refused_at (ready_then number) (went_with number) (still_ready number) after;
 }
 
--- a fault of the number
+-- an error in the number
 pub number_refused : {old mid new : ReaderState} {first : ℕ} {kind : ErrorKind} → OctetRead old mid first → first % 32 ≡ 31 → HeadFault read_number mid new kind → HeadFault read_tag old new kind
 number_refused {old = old} {mid = mid} {first = first} read low fault =
     let position : mid.position ≡ old.position + 1 = ap (λ (s : ReaderState). s.position) read.after in

@@ -22,11 +22,11 @@ pub record NumberSoFar (old now : ReaderState) (n : ℕ) : Type 0 where
 pub no_digits : (s : ReaderState) → NumberSoFar s s 0
 no_digits s = record { fits = omega arith; taken = refl; after = sym (ap (λ k. record s { position = k }) (add-zero s.position)); begun = λ some. absurd (omega arith) }
 
--- an octet after what was read
+-- one octet after those that were read
 pub taken_with : {old now next : ReaderState} {n octet : ℕ} → NumberSoFar old now n → OctetRead now next octet → rest old ≡ (leading_octets n ++ (octet ∷ [])) ++ rest next
 taken_with {next = next} {n = n} {octet = octet} so_far read = so_far.taken ∙ ap (λ z. leading_octets n ++ z) read.first ∙ sym (append_assoc (leading_octets n) (octet ∷ []) (rest next))
 
--- where the reader stands after one more octet
+-- the state of the reader after one more octet
 after_with : {old now next : ReaderState} {n octet : ℕ} → NumberSoFar old now n → OctetRead now next octet → next ≡ after_read old (length (leading_octets n ++ (octet ∷ [])))
 after_with {old = old} {n = n} {octet = octet} so_far read =
     let count = length-append (leading_octets n) (octet ∷ []) in
@@ -37,7 +37,7 @@ after_with {old = old} {n = n} {octet = octet} so_far read =
 ready_before : {old now : ReaderState} {n : ℕ} → NumberSoFar old now n → now.failed ≡ false → old.failed ≡ false
 ready_before so_far ready = sym (ap (λ (s : ReaderState). s.failed) so_far.after) ∙ ready
 
--- one more digit that others follow
+-- one more digit, which is not the last
 pub one_digit_more : {old now next : ReaderState} {n octet more : ℕ} → NumberSoFar old now n → OctetRead now next octet → Some more ≡ with_digit n octet → 128 ≤ octet → octet < 256 → NumberSoFar old next more
 one_digit_more {old = old} {next = next} {n = n} {octet = octet} {more = more} so_far read digit high small =
     let octets = leading_octets-more n octet more (sym digit) high small in record {
@@ -59,18 +59,18 @@ number_read {old = old} {next = next} {n = n} {octet = octet} {v = v} so_far rea
       after = after_with so_far read ∙ ap (λ z. after_read old (length z)) last.1;
     }
 
--- what a reader sees that has not failed
+-- the result of parsing for a reader that has not failed
 pub seen_ready : {A : Type 0} (parse : ℕ → List ℕ → Result A ErrorKind) (s : ReaderState) → s.failed ≡ false → unless_failed parse s ≡ parse s.position (rest s)
 seen_ready parse s e = ap (λ b. if b then Err Failed else parse s.position (rest s)) e
 
--- an octet that is no digit
+-- an octet that is not a valid digit
 pub number_invalid : {old now next new : ReaderState} {n octet : ℕ} → NumberSoFar old now n → OctetRead now next octet → with_digit n octet ≡ None → new ≡ after_fault next → HeadFault read_number old new TagNumberInvalid
 number_invalid {old = old} {next = next} {n = n} {octet = octet} so_far read digit after = record {
   fault_is = seen_ready read_number old (ready_before so_far read.ready) ∙ ap (read_number old.position) (taken_with so_far read ∙ append_assoc (leading_octets n) (octet ∷ []) (rest next)) ∙ read_number-invalid old.position n octet (rest next) digit;
   reader = refused_at (ready_before so_far read.ready) (went_further (went_on _ so_far.after) (went_on _ read.after)) (ap (λ (s : ReaderState). s.failed) read.after ∙ read.ready) after;
 }
 
--- no octet where a digit should be
+-- a digit is missing
 pub number_missing : {old now new : ReaderState} {n : ℕ} {kind : ErrorKind} → NumberSoFar old now n → Refuses now new kind (read_fault now 1) × (now.failed ≡ false → rest now ≡ []) × (now.failed ≡ false → kind ≡ read_fault_at now.position 1 0) → HeadFault read_number old new kind
 number_missing {old = old} {now = now} {new = new} {n = n} {kind = kind} so_far (refused, none, fault) = record { fault_is = at old.failed refl; reader = refused_there old.failed refl }
   where

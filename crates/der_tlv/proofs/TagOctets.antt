@@ -14,16 +14,16 @@ use Rattle.der_tlv.specs.TagDigits.{mark_digits, leading_octets}
 pub leading_octets-step : (n : ℕ) → 0 < n → leading_octets n ≡ leading_octets (n / 128) ++ ((128 + n % 128) ∷ [])
 leading_octets-step n h = ap mark_digits (digits_of_step 128 n (omega arith) h) ∙ map-append (λ k. 128 + k) (digits_of 128 (n / 128)) (n % 128 ∷ [])
 
--- there is one more octet with each digit
+-- each digit adds one octet
 pub length-leading_octets-step : (n : ℕ) → 0 < n → length (leading_octets n) ≡ length (leading_octets (n / 128)) + 1
 length-leading_octets-step n h = ap length (leading_octets-step n h) ∙ length-append (leading_octets (n / 128)) ((128 + n % 128) ∷ [])
 
--- one more octet after the leading octets of a number without its last digit
+-- appending one octet to the leading octets of a number without its last digit
 pub leading_pushed : (old before new : List ℕ) (n : ℕ) → 0 < n → before ≡ old ++ leading_octets (n / 128) → new ≡ before ++ ((128 + n % 128) ∷ []) → new ≡ old ++ leading_octets n
 leading_pushed old before new n h e f =
     f ∙ ap (λ z. z ++ ((128 + n % 128) ∷ [])) e ∙ append_assoc old (leading_octets (n / 128)) ((128 + n % 128) ∷ []) ∙ ap (λ z. old ++ z) (sym (leading_octets-step n h))
 
--- at most four octets stand before the last
+-- at most four octets come before the last
 pub length-leading_octets : (n : ℕ) → n < 2 ^ 32 → length (leading_octets (n / 128)) ≤ 4
 length-leading_octets n h = let a = length-map (digits_of 128 (n / 128)) (λ k. 128 + k) in let b : length (digits_of 128 (n / 128)) ≤ 4 = length-digits_of-le 128 4 (n / 128) (omega arith) (omega arith) in omega arith
 
@@ -32,7 +32,7 @@ pub number_pushed : (old before new : List ℕ) (n : ℕ) → before ≡ old ++ 
 unfolding number_octets
 number_pushed old before new n e f = f ∙ ap (λ z. z ++ ((n % 128) ∷ [])) e ∙ append_assoc old (leading_octets (n / 128)) ((n % 128) ∷ [])
 
--- the first identifier octet, which is all of them for a number of at most 30
+-- the first identifier octet, which is the only one for a number of at most 30
 pub identifier_pushed : (old new : List ℕ) (t : Tag) (octet : ℕ) → number_of t < 31 → octet ≡ first_octet (class_of t) (is_constructed t) (low_bits (number_of t)) → new ≡ old ++ (octet ∷ []) → new ≡ old ++ identifier t
 identifier_pushed old new t octet small e pushed =
     elim (sized (number_of t)) [

@@ -15,7 +15,7 @@ use Rattle.der_tlv.specs.TagReadingLaws.{tag_of_parts, tag_of_octets-parts}
 use Rattle.der_tlv.specs.IdentifierLaws.{identifier-is, low_bits, later_octets, sized}
 use Rattle.der_tlv.specs.IdentifierLaws.Sized.{short, long}
 
--- a universal tag of a number
+-- a universal tag with this number
 abbrev IsUniversal : ℕ → Tag → Type 0
 IsUniversal n t = (number_of t ≡ n) × (class_of t ≡ class.Universal)
 
@@ -50,7 +50,7 @@ universal_tag-is n t =
     next true k others here there e = let same : k ≡ t = cc in let both = here refl in (ap number_of (sym same) ∙ both.0, ap class_of (sym same) ∙ both.1)
     next false k others here there e = there e
 
--- a universal tag with its one form
+-- a universal tag in its only form
 universal_of-is : (first : ℕ) (constructed : Bool) (o : Option Tag) (t : Tag) → universal_of first constructed o ≡ Ok t → (o ≡ Some t) × (is_constructed t ≡ constructed)
 universal_of-is first constructed None t e = absurd (cc)
 universal_of-is first constructed (Some u) t e = let k = same_form (is_constructed u) constructed e in let same : u ≡ t = k.0 in (ap (λ x. Some x) same, ap is_constructed (sym same) ∙ k.1)
@@ -67,7 +67,7 @@ pub record HasParts (class form n : ℕ) (t : Tag) : Type 0 where
   pub form_is : form_bit (is_constructed t) ≡ form
   pub number_is : number_of t ≡ n
 
--- bit 6 is what its test says
+-- the test of bit 6 gives bit 6
 form_bit-test : (form : ℕ) → form < 2 → form_bit (nat_eq form 1) ≡ form
 form_bit-test form h = split (nat_eq form 1) refl
   where
@@ -75,7 +75,7 @@ form_bit-test form h = split (nat_eq form 1) refl
     split true e = sym (eqb-true form 1 (sym e))
     split false e = grind (arith, nat_tests)
 
--- by the four numbers below 4
+-- a proof by cases for the four numbers below 4
 below_four : (P : ℕ → Type 0) → P 0 → P 1 → P 2 → P 3 → (k : ℕ) → k < 4 → P k
 below_four P a b c d zero h = a
 below_four P a b c d (suc zero) h = b
@@ -87,7 +87,7 @@ below_four P a b c d (suc (suc (suc (suc k)))) h = absurd (omega arith)
 abbrev Gives : Result Tag ErrorKind → Tag → Type 0
 Gives r t = r ≡ Ok t
 
--- the tag of parts has them
+-- the tag that is made of parts has these parts
 has_parts : (first class form n : ℕ) (t : Tag) → class < 4 → form < 2 → tag_of_parts first class form n ≡ Ok t → HasParts class form n t
 unfolding tag_of_parts
 has_parts first class form n t small bit = below_four (λ k. Gives (tag_of_parts first k form n) t → HasParts k form n t) universal application context private class small

@@ -1,7 +1,7 @@
--- What a writer that is filled from its end holds.
+-- The state of a writer that is filled from its end.
 use Rattle.std.specs.Prelude.{ℕ, List, []}
 
--- how many octets it still takes, those that it holds, and how many stand open before these, to be written in their order
+-- the number of octets that it still takes, the octets that it holds, and the number of octets before them that are open for writing in order
 pub record BackState : Type 0 where
   pub room : ℕ
   pub held : List ℕ

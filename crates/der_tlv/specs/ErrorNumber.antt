@@ -23,6 +23,6 @@ error_number OidMalformed = 15
 error_number IndefiniteLength = 16
 error_number Failed = 17
 
--- memory ran out, wherever it was
+-- memory ran out, with no position
 abbrev pub out_of_memory : Error
 out_of_memory = record { kind = Memory; position = None }

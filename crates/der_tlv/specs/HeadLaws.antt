@@ -1,4 +1,4 @@
--- What length octets and headers are to each other, and to reading.
+-- Laws of length octets and headers, and of reading them.
 use Rattle.std.specs.Prelude.{◌≡◌, ℕ, ◌^◌, ◌<◌, ◌≤◌, List, ◌++◌, length, Ok}
 use Rattle.der_tlv.specs.declared.tag.Tag.{Tag}
 use Rattle.der_tlv.specs.TagParts.{IsTag}
@@ -6,7 +6,7 @@ use Rattle.der_tlv.specs.LengthOctets.{length_octets}
 use Rattle.der_tlv.specs.HeaderOctets.{header_octets}
 use Rattle.der_tlv.specs.HeaderReading.{read_length, read_header, header}
 
--- no length octets are a beginning of those of another length
+-- no length octets are a prefix of those of another length
 abbrev pub LengthsAreUnique : Type 0
 LengthsAreUnique = (m n : ℕ) (x y : List ℕ) → length_octets m ++ x ≡ length_octets n ++ y → (m ≡ n) × (x ≡ y)
 
@@ -18,7 +18,7 @@ LengthsReadBack = (n p : ℕ) (x : List ℕ) → n < 2 ^ 32 → read_length p (l
 abbrev pub LengthsAreShort : Type 0
 LengthsAreShort = (n : ℕ) → n < 2 ^ 32 → (0 < length (length_octets n)) × (length (length_octets n) ≤ 5)
 
--- no header is a beginning of another
+-- no header is a prefix of another
 abbrev pub HeadersAreUnique : Type 0
 HeadersAreUnique = (t u : Tag) (m n : ℕ) (x y : List ℕ) → header_octets t m ++ x ≡ header_octets u n ++ y → (t ≡ u) × (m ≡ n) × (x ≡ y)
 

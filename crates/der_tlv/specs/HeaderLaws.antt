@@ -1,4 +1,4 @@
--- No header and no encoding is a proper beginning of another, and what is written is read.
+-- No header and no encoding is a proper prefix of another, and a header that was written is read back.
 use Rattle.std.proofs.Common.{◌≡◌, ℕ, ◌+◌, ◌<◌, ◌^◌, Bool, true, false, List, [], ◌++◌, length, Ok, refl, sym, ap, ◌∙◌, subst, append_assoc, IsTrue, ◌↔◌}
 use Rattle.std.proofs.lemmas.List.{length-append}
 use Rattle.std.proofs.Math.Seq.{drop-append_seam}
@@ -13,7 +13,7 @@ use Rattle.der_tlv.specs.HeaderOctets.{header_octets, tlv}
 use Rattle.der_tlv.specs.TagReadingLaws.{read_tag-identifier}
 use Rattle.der_tlv.specs.HeaderReading.{read_header, read_length, header, header_with_tag, header_with_length}
 
--- a header is found again in what it begins
+-- octets begin with at most one header
 pub header_octets-unique : (t u : Tag) (m n : ℕ) (x y : List ℕ) → header_octets t m ++ x ≡ header_octets u n ++ y → (t ≡ u) × (m ≡ n) × (x ≡ y)
 header_octets-unique t u m n x y e =
     let f = sym (append_assoc (identifier t) (length_octets m) x) ∙ e ∙ append_assoc (identifier u) (length_octets n) y in
@@ -21,7 +21,7 @@ header_octets-unique t u m n x y e =
     let lengths = length_octets-unique m n x y tags.1 in
     (tags.0, lengths.0, lengths.1)
 
--- an encoding is found again in what it begins
+-- octets begin with at most one encoding
 pub tlv-unique : (t u : Tag) (c d x y : List ℕ) → tlv t c ++ x ≡ tlv u d ++ y → (t ≡ u) × (c ≡ d) × (x ≡ y)
 tlv-unique t u c d x y e =
     let f = sym (append_assoc (header_octets t (length c)) c x) ∙ e ∙ append_assoc (header_octets u (length d)) d y in
@@ -40,7 +40,7 @@ pub same_identifier-true : (t u : Tag) → same_identifier t u ≡ true → t �
 unfolding same_identifier
 same_identifier-true t u h = identifier-injective t u ((bytes_decides (identifier t) (identifier u)).0 h)
 
--- what is written is read, whatever follows
+-- a header that was written is read back, whatever follows it
 pub read_header-octets : (t : Tag) (n p : ℕ) (x : List ℕ) → IsTag t → n < 2 ^ 32 → read_header p (header_octets t n ++ x) ≡ Ok (length (header_octets t n), header t n)
 unfolding read_header
 read_header-octets t n p x small short =
@@ -50,7 +50,7 @@ read_header-octets t n p x small short =
     let len = ap (header_with_length (length (identifier t)) t) (read_length-octets n (p + length (identifier t)) x short) in
     ap (read_header p) regroup ∙ tag ∙ left ∙ len ∙ ap (λ k. Ok (k, header t n)) (sym (length-append (identifier t) (length_octets n)))
 
--- a test of two tags that is true exactly where they are one is that of their identifier octets
+-- a test that is true exactly when two tags are the same equals the test of their identifier octets
 pub same_identifier-test : (b : Bool) (t u : Tag) → (IsTrue b ↔ (t ≡ u)) → b ≡ same_identifier t u
 same_identifier-test b t u h = at b (same_identifier t u) refl refl
   where

@@ -18,7 +18,7 @@ use Rattle.der_tlv.specs.HeaderOctets.{tlv}
 digit_cmp : (m n x y : ℕ) → x < 256 → y < 256 → nat_cmp (m * 256 + x) (n * 256 + y) ≡ ordering_then (nat_cmp m n) (nat_cmp x y)
 digit_cmp m n x y h k = grind (arith, nat_tests)
 
--- the order of as many digits is that of their numbers
+-- the order of two lists with the same number of digits is that of their numbers
 digits_cmp : (m n : ℕ) (xs ys : List ℕ) → AllBelowBase 256 xs → AllBelowBase 256 ys → length xs ≡ length ys → nat_cmp (number_from_digits_after 256 m xs) (number_from_digits_after 256 n ys) ≡ ordering_then (nat_cmp m n) (lex xs ys)
 digits_cmp m n [] [] a b l = sym (then_equal (nat_cmp m n))
 digits_cmp m n [] (y ∷ ys) a b l = absurd (omega arith)
@@ -26,12 +26,12 @@ digits_cmp m n (x ∷ xs) [] a b l = absurd (omega arith)
 digits_cmp m n (x ∷ xs) (y ∷ ys) (a, as') (b, bs) l =
     digits_cmp (m * 256 + x) (n * 256 + y) xs ys as' bs (omega arith) ∙ ap (λ o. ordering_then o (lex xs ys)) (digit_cmp m n x y a b) ∙ sym (then_assoc (nat_cmp m n) (nat_cmp x y) (lex xs ys))
 
--- the order of the digits of two numbers that have as many
+-- the order of the digits of two numbers that have the same number of digits
 lex-digits : (m n : ℕ) → length (digits_of 256 m) ≡ length (digits_of 256 n) → lex (digits_of 256 m) (digits_of 256 n) ≡ nat_cmp m n
 lex-digits m n l =
     sym (digits_cmp 0 0 (digits_of 256 m) (digits_of 256 n) (all_below_base_digits_of 256 m (lit≤ tt)) (all_below_base_digits_of 256 n (lit≤ tt)) l) ∙ ap (λ k. nat_cmp k (number_from_digits 256 (digits_of 256 n))) (number_digits_of 256 m (lit≤ tt)) ∙ ap (nat_cmp m) (number_digits_of 256 n (lit≤ tt))
 
--- more digits are of a greater number
+-- the number with more digits is greater
 more_digits : (m n : ℕ) → length (digits_of 256 m) < length (digits_of 256 n) → m < n
 more_digits m n l = at (nat_lt m n) refl
   where
@@ -44,7 +44,7 @@ more_digits m n l = at (nat_lt m n) refl
         let few = length-digits_of-le 256 (length (digits_of 256 m)) n (lit≤ tt) less in
         absurd (omega arith)
 
--- more digits decide
+-- the number of digits decides, and then the digits
 long_cmp : (m n : ℕ) → ordering_then (nat_cmp (128 + length (digits_of 256 m)) (128 + length (digits_of 256 n))) (lex (digits_of 256 m) (digits_of 256 n)) ≡ nat_cmp m n
 long_cmp m n = at (nat_lt (length (digits_of 256 m)) (length (digits_of 256 n))) (nat_lt (length (digits_of 256 n)) (length (digits_of 256 m))) refl refl
   where

@@ -1,4 +1,4 @@
--- What reading an identifier, a length and a header comes to, in the order of their faults.
+-- The results of reading an identifier, a length and a header, in the order of their errors.
 use Rattle.std.specs.Prelude.{ℕ, suc, ◌+◌, ◌-◌, ◌/◌, ◌%◌, ◌^◌, nat_lt, nat_le, ◌==◌, nat_eq, if◌then◌else◌, Bool, List, [], ◌∷◌, length, take, drop, map, take_while, Option, Some, None, Result, Ok, Err}
 use Rattle.std.specs.Int.Digits.{number_from_digits}
 use Rattle.std.specs.Cmp.Lexicographic.{pointwise}
@@ -13,19 +13,19 @@ use Rattle.der_tlv.specs.LengthOctets.{length_octets}
 use Rattle.der_tlv.specs.HeaderOctets.{header_octets}
 use Rattle.der_tlv.specs.ReaderState.{read_fault_at}
 
--- the fault of a read of one octet after all that are left at position p
+-- the error of reading one octet after all the octets that are left at position p
 abbrev pub octet_missing : ℕ → List ℕ → ErrorKind
 octet_missing p left = read_fault_at (p + length left) 1 0
 
--- how many octets a number in base 128 has before its last: those with bit 8 set
+-- the number of octets before the last of a number in base 128: those with bit 8 set
 abbrev pub high_count : List ℕ → ℕ
 high_count octets = length (take_while (λ d. nat_le 128 d) octets)
 
--- the number that the octets of a number in base 128 write, as far as there are any
+-- the number that the octets write in base 128, as far as octets are present
 abbrev pub number_value : List ℕ → ℕ
 number_value octets = number_from_digits 128 (map (λ d. d % 128) (take (high_count octets + 1) octets))
 
--- A tag number of more than 30 at position p: how many octets it takes and the number, or the first fault.
+-- A tag number above 30 at position p: its number of octets and its value, or the first error.
 unfoldable pub read_number : ℕ → List ℕ → Result (ℕ × ℕ) ErrorKind
 read_number p [] = Err (octet_missing p [])
 read_number p (x ∷ xs) =
@@ -35,7 +35,7 @@ read_number p (x ∷ xs) =
     else (if nat_lt (number_value (x ∷ xs)) 31 then Err TagNumberInvalid
     else Ok (high_count (x ∷ xs) + 1, number_value (x ∷ xs)))))
 
--- a universal tag with its one form
+-- a universal tag in its only form
 abbrev pub universal_of : ℕ → Bool → Option Tag → Result Tag ErrorKind
 universal_of first constructed None = Err (TagUnknown first)
 universal_of first constructed (Some t) = if beq (is_constructed t) constructed then Ok t else Err (Noncanonical t)
@@ -57,18 +57,18 @@ abbrev pub tag_with_number : ℕ → Result (ℕ × ℕ) ErrorKind → Result (�
 tag_with_number first (Ok (count, n)) = counted_tag (1 + count) (tag_of_octets first n)
 tag_with_number first (Err k) = Err k
 
--- An identifier at position p: how many octets it takes and the tag, or the first fault.
+-- An identifier at position p: its number of octets and the tag, or the first error.
 unfoldable pub read_tag : ℕ → List ℕ → Result (ℕ × Tag) ErrorKind
 read_tag p [] = Err (octet_missing p [])
 read_tag p (x ∷ xs) =
     if x % 32 == 31 then tag_with_number x (read_number (p + 1) xs) else counted_tag 1 (tag_of_octets x (x % 32))
 
--- a length of so many octets, these, if fewer octets could not say it
+-- a length of `count` octets, if it does not fit in fewer octets
 abbrev pub fewest_octets : ℕ → List ℕ → ℕ → Result (ℕ × ℕ) ErrorKind
 fewest_octets count octets n =
     if pointwise nat_eq (length_octets n) ((128 + count) ∷ octets) then Ok (count, n) else Err Overlength
 
--- The octets of a length of 128 and more after the octet that counts them, at position p.
+-- The octets of a length of at least 128 after the octet that counts them, at position p.
 unfoldable pub read_long_length : ℕ → ℕ → List ℕ → Result (ℕ × ℕ) ErrorKind
 read_long_length count p octets =
     if nat_lt (length octets) count then Err (octet_missing p octets)
@@ -78,7 +78,7 @@ abbrev pub after_one : Result (ℕ × ℕ) ErrorKind → Result (ℕ × ℕ) Err
 after_one (Ok (count, n)) = Ok (suc count, n)
 after_one (Err k) = Err k
 
--- Length octets at position p: how many there are and the length, or the first fault.
+-- Length octets at position p: their number and the length, or the first error.
 unfoldable pub read_length : ℕ → List ℕ → Result (ℕ × ℕ) ErrorKind
 read_length p [] = Err (octet_missing p [])
 read_length p (x ∷ xs) =
@@ -101,6 +101,6 @@ abbrev pub header_with_tag : ℕ → List ℕ → Result (ℕ × Tag) ErrorKind 
 header_with_tag p octets (Ok (count, t)) = header_with_length count t (read_length (p + count) (drop count octets))
 header_with_tag p octets (Err k) = Err k
 
--- A header at position p: how many octets it takes and what it says, or the first fault: the identifier's, then the length's.
+-- A header at position p: its number of octets and its value, or the first error: the identifier's, then the length's.
 unfoldable pub read_header : ℕ → List ℕ → Result (ℕ × Header) ErrorKind
 read_header p octets = header_with_tag p octets (read_tag p octets)

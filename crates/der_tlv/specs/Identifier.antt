@@ -36,6 +36,6 @@ identifier_octets class constructed n =
 unfoldable pub identifier : Tag → List ℕ
 identifier t = identifier_octets (class_of t) (is_constructed t) (number_of t)
 
--- whether two tags have the same identifier octets, and so are one
+-- whether two tags have the same identifier octets, and so are the same tag
 unfoldable pub same_identifier : Tag → Tag → Bool
 same_identifier t u = pointwise nat_eq (identifier t) (identifier u)

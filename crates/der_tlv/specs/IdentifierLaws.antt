@@ -1,4 +1,4 @@
--- Laws of identifier octets: which tag they are of, and where they end.
+-- Laws of identifier octets: their tag and their end.
 use Rattle.std.specs.Prelude.{◌≡◌, ℕ, ◌+◌, ◌/◌, ◌%◌, ◌^◌, ◌<◌, ◌≤◌, ◌==◌, Bool, true, false, nat_lt, if◌then◌else◌, List, [], ◌∷◌, ◌++◌, map, length, Option, Some}
 use Rattle.std.specs.Int.Digits.{digits_of}
 use Rattle.std.specs.Ordering.{ordering_then, is_eq}
@@ -18,7 +18,7 @@ use Rattle.der_tlv.specs.Octets.{lex}
 use Rattle.der_tlv.specs.OrderingLaws.{equal_tested}
 use Rattle.der_tlv.specs.OctetLaws.{SameBeginning, lex-append, lex-equal, lex-same}
 
--- octets with bit 8 set, one without, and a tail: each part is the other's where the whole is
+-- octets with bit 8 set, one without, and a tail: if two such lists are equal, so are their parts
 mark_digits-unique : (a b : List ℕ) (r s : ℕ) (x y : List ℕ) → r < 128 → s < 128 → map (λ d. 128 + d) a ++ (r ∷ x) ≡ map (λ d. 128 + d) b ++ (s ∷ y) → (a ≡ b) × (r ≡ s) × (x ≡ y)
 mark_digits-unique [] [] r s x y p q e = (refl, cc, cc)
 mark_digits-unique [] (d ∷ b) r s x y p q e = let k : r ≡ 128 + d = cc in absurd (omega arith)
@@ -31,7 +31,7 @@ mark_digits-unique (c ∷ a) (d ∷ b) r s x y p q e =
     let digits : a ≡ b = parts.0 in
     (cc, parts.1, parts.2)
 
--- the octets of a number end where they say, and are of one number
+-- the octets of a number determine their end and the number
 pub number_octets-unique : (m n : ℕ) (x y : List ℕ) → number_octets m ++ x ≡ number_octets n ++ y → (m ≡ n) × (x ≡ y)
 unfolding number_octets
 number_octets-unique m n x y e =
@@ -45,7 +45,7 @@ number_octets-unique m n x y e =
 class_at : ℕ → Class
 class_at n = if n == 0 then class.Universal else (if n == 1 then class.Application else (if n == 2 then class.ContextSpecific else class.Private))
 
--- a class is that of its bits
+-- bits 8 and 7 of a class give that class
 class_at-is : (c : Class) → class_at (class_index c) ≡ c
 unfolding class_at
 class_at-is class.Universal = refl
@@ -69,7 +69,7 @@ pub form_bit-small : (f : Bool) → form_bit f ≤ 1
 form_bit-small true = omega arith
 form_bit-small false = omega arith
 
--- a first octet is of one class, one form and one number in bits 5 to 1
+-- a first octet has one class, one form and one number in bits 5 to 1
 pub first_octet-unique : (c d : Class) (f g : Bool) (i j : ℕ) → i < 32 → j < 32 → first_octet c f i ≡ first_octet d g j → (c ≡ d) × (f ≡ g) × (i ≡ j)
 first_octet-unique c d f g i j p q e =
     let a = form_bit-small f in
@@ -83,7 +83,7 @@ rebuilt class.Application constructed n = Some (Application constructed (record 
 rebuilt class.ContextSpecific constructed n = Some (ContextSpecific constructed (record { 0 = n }))
 rebuilt class.Private constructed n = Some (Private constructed (record { 0 = n }))
 
--- a tag is that of its parts
+-- the parts of a tag give that tag
 rebuilt-is : (t : Tag) → rebuilt (class_of t) (is_constructed t) (number_of t) ≡ Some t
 unfolding rebuilt
 rebuilt-is Boolean = refl
@@ -112,11 +112,11 @@ rebuilt-is (Application constructed number) = refl
 rebuilt-is (ContextSpecific constructed number) = refl
 rebuilt-is (Private constructed number) = refl
 
--- a tag is its class, its form and its number
+-- two tags with the same class, form and number are the same
 pub tag-unique : (t u : Tag) → class_of t ≡ class_of u → is_constructed t ≡ is_constructed u → number_of t ≡ number_of u → t ≡ u
 tag-unique t u c f n = let a = rebuilt-is t in let b = rebuilt-is u in let k : Some t ≡ Some u = sym a ∙ ap (λ x. rebuilt x (is_constructed t) (number_of t)) c ∙ ap (λ x. rebuilt (class_of u) x (number_of t)) f ∙ ap (λ x. rebuilt (class_of u) (is_constructed u) x) n ∙ b in cc
 
--- the number of bits 5 to 1, and the octets after the first
+-- the number in bits 5 to 1
 abbrev pub low_bits : ℕ → ℕ
 low_bits n = if nat_lt n 31 then n else 31
 
@@ -129,12 +129,12 @@ identifier_octets-is : (c : Class) (f : Bool) (n : ℕ) → identifier_octets c 
 unfolding identifier_octets
 identifier_octets-is c f n = elim (nat_lt n 31) as (λ b. (if b then first_octet c f n ∷ [] else first_octet c f 31 ∷ number_octets n) ≡ first_octet c f (if b then n else 31) ∷ (if b then [] else number_octets n)) [ true ↦ refl | false ↦ refl ]
 
--- a number of at most 30 is its low bits, and a greater one has all of them set
+-- a number of at most 30 equals its low bits, and a greater number has all of them set
 pub data Sized (n : ℕ) : Type 0 where
   short : n < 31 → low_bits n ≡ n → later_octets n ≡ [] → Sized n
   long : 31 ≤ n → low_bits n ≡ 31 → later_octets n ≡ number_octets n → Sized n
 
--- each number is of one of the two sizes
+-- each number has one of the two sizes
 pub sized : (n : ℕ) → Sized n
 sized n = split (nat_lt n 31) refl
   where
@@ -142,7 +142,7 @@ sized n = split (nat_lt n 31) refl
     split true e = short (ltb-true n 31 (sym e)) (ap (λ x. if x then n else 31) (sym e)) (ap (λ x. if x then [] else number_octets n) (sym e))
     split false e = long (ltb-false n 31 (sym e)) (ap (λ x. if x then n else 31) (sym e)) (ap (λ x. if x then [] else number_octets n) (sym e))
 
--- the octets after the first end where they say, and are of one number
+-- the octets after the first determine their end and the number
 later-unique : (m n : ℕ) (x y : List ℕ) → low_bits m ≡ low_bits n → later_octets m ++ x ≡ later_octets n ++ y → (m ≡ n) × (x ≡ y)
 later-unique m n x y low e = elim (sized m) [
   | short l a b ↦ elim (sized n) [ short k c d ↦ (omega arith, sym (ap (λ z. z ++ x) b) ∙ e ∙ ap (λ z. z ++ y) d) | long k c d ↦ absurd (omega arith) ]
@@ -153,7 +153,7 @@ later-unique m n x y low e = elim (sized m) [
 pub low_bits-small : (n : ℕ) → low_bits n < 32
 low_bits-small n = elim (sized n) [ short l a b ↦ omega arith | long l a b ↦ omega arith ]
 
--- identifier octets end where they say, and are of one class, one form and one number
+-- identifier octets determine their end, the class, the form and the number
 pub identifier_octets-unique : (c d : Class) (f g : Bool) (m n : ℕ) (x y : List ℕ) → identifier_octets c f m ++ x ≡ identifier_octets d g n ++ y → (c ≡ d) × (f ≡ g) × (m ≡ n) × (x ≡ y)
 identifier_octets-unique c d f g m n x y e =
     let whole : first_octet c f (low_bits m) ∷ (later_octets m ++ x) ≡ first_octet d g (low_bits n) ∷ (later_octets n ++ y) = sym (ap (λ z. z ++ x) (identifier_octets-is c f m)) ∙ e ∙ ap (λ z. z ++ y) (identifier_octets-is d g n) in
@@ -169,7 +169,7 @@ identifier_octets-unique c d f g m n x y e =
     cons_tail : (a b : ℕ) (p q : List ℕ) → a ∷ p ≡ b ∷ q → p ≡ q
     cons_tail a b p q h = cc
 
--- identifier octets end where they say, and are of one tag
+-- identifier octets determine their end and the tag
 pub identifier-unique : (t u : Tag) (x y : List ℕ) → identifier t ++ x ≡ identifier u ++ y → (t ≡ u) × (x ≡ y)
 unfolding identifier
 identifier-unique t u x y e =
@@ -180,11 +180,11 @@ identifier-unique t u x y e =
 pub identifier-injective : (t u : Tag) → identifier t ≡ identifier u → t ≡ u
 identifier-injective t u e = (identifier-unique t u [] [] (ap (λ z. z ++ []) e)).0
 
--- no identifier octets are a proper beginning of others
+-- no identifier octets are a proper prefix of others
 pub identifier-beginning : (t u : Tag) → SameBeginning (identifier t) (identifier u)
 identifier-beginning t u = record { same = λ x y e. ap identifier (identifier-unique t u x y e).0 }
 
--- what follows identifier octets counts in their order only where the tags are the same
+-- what follows identifier octets affects their order only if the tags are the same
 pub lex-identifier : (t u : Tag) (x y : List ℕ) → lex (identifier t ++ x) (identifier u ++ y) ≡ ordering_then (lex (identifier t) (identifier u)) (lex x y)
 lex-identifier t u x y = lex-append (identifier t) (identifier u) x y (identifier-beginning t u)
 
@@ -197,7 +197,7 @@ pub identifier-is : (t : Tag) → identifier t ≡ first_octet (class_of t) (is_
 unfolding identifier
 identifier-is t = identifier_octets-is (class_of t) (is_constructed t) (number_of t)
 
--- there is a first identifier octet
+-- a tag has a first identifier octet
 pub length-identifier-positive : (t : Tag) → 0 < length (identifier t)
 length-identifier-positive t = let e = ap length (identifier-is t) in omega arith
 
@@ -217,7 +217,7 @@ length-identifier t h =
     let few = length-number_octets (number_of t) h in
     elim (sized (number_of t)) [ short l a b ↦ (let k = ap length b in omega arith) | long l a b ↦ (let k = ap length b in omega arith) ]
 
--- tags are the same exactly where their identifier octets compare as equal
+-- two tags are the same exactly when their identifier octets compare as equal
 pub identifier_decides : (t u : Tag) → Decides (is_eq (lex (identifier t) (identifier u))) (t ≡ u)
 identifier_decides t u = (
   (λ e. lex-identifier-equal t u (equal_tested (lex (identifier t) (identifier u)) e)),

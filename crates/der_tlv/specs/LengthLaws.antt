@@ -1,4 +1,4 @@
--- Length octets say one length each, none is a proper beginning of another, and what is written is read.
+-- Length octets encode one length, none are a proper prefix of others, and those that were written are read back.
 use Rattle.std.proofs.Common.{◌≡◌, ℕ, ◌+◌, ◌-◌, ◌*◌, ◌/◌, ◌%◌, ◌^◌, ◌<◌, ◌≤◌, Bool, true, false, List, [], ◌∷◌, ◌++◌, length, Ok, refl, sym, ap, ◌∙◌, arith, append_assoc, nat_lt, nat_eq, ◌==◌, lit≤}
 use Rattle.std.proofs.lemmas.List.{append-nil, length-append}
 use Rattle.std.proofs.lemmas.Nat.{div-mul-add, mod-mul-add}
@@ -10,7 +10,7 @@ use Rattle.std.proofs.lemmas.Int.Digits.{digits_of_step, length-digits_of_step, 
 use Rattle.der_tlv.specs.LengthOctets.{length_octets}
 use Rattle.der_tlv.specs.HeaderReading.{read_length, read_long_length}
 
--- the digits of a number that digits below the base carry on
+-- the digits of a number, followed by digits below the base
 pub digits_of-number_after : (b n : ℕ) (ds : List ℕ) → 2 ≤ b → 0 < n → AllBelowBase b ds → digits_of b (number_from_digits_after b n ds) ≡ digits_of b n ++ ds
 digits_of-number_after b n [] h k a = sym (append-nil (digits_of b n))
 digits_of-number_after b n (d ∷ ds) h k (small, below) =
@@ -41,7 +41,7 @@ pub digits_of-number : (b d : ℕ) (ds : List ℕ) → 2 ≤ b → 0 < d → All
 digits_of-number b d ds h k (small, below) =
     ap (λ m. digits_of b (number_from_digits_after b m ds)) (zero-times b d) ∙ digits_of-number_after b d ds h k below ∙ ap (λ c. c ++ ds) (digits_of-digit b d h k small)
 
--- parts of one length are found again in what they begin
+-- if two lists are equal, so are their first parts of the same length, and their rests
 pub split_same_length : (a b x y : List ℕ) → length a ≡ length b → a ++ x ≡ b ++ y → (a ≡ b) × (x ≡ y)
 split_same_length [] [] x y l e = (refl, e)
 split_same_length [] (n ∷ b) x y l e = absurd (omega arith)
@@ -80,7 +80,7 @@ length_octets-unique m n x y = at (nat_lt m 128) (nat_lt n 128) refl refl
 pub length_octets-injective : (m n : ℕ) → length_octets m ≡ length_octets n → m ≡ n
 length_octets-injective m n e = (length_octets-unique m n [] [] (ap (λ c. c ++ []) e)).0
 
--- how many octets a length takes
+-- a length has at least one octet
 pub length_octets-some : (n : ℕ) → 0 < length (length_octets n)
 unfolding length_octets
 length_octets-some n = at (nat_lt n 128) refl
@@ -97,16 +97,16 @@ length_octets-few n small = at (nat_lt n 128) refl
     at true e = rw e (omega arith)
     at false e = let few = length-digits_of-le 256 4 n (lit≤ tt) small in rw e (omega arith)
 
--- a list is itself, octet for octet
+-- a list equals itself, octet for octet
 pub pointwise-same : (a : List ℕ) → pointwise nat_eq a a ≡ true
 pointwise-same [] = refl
 pointwise-same (x ∷ a) = let e : nat_eq x x ≡ true = grind (arith, nat_tests) in rw (e, pointwise-same a) refl
 
--- octets in front of others are not missing
+-- a list is not shorter than its first part
 pub not_short : (c x : List ℕ) → nat_lt (length (c ++ x)) (length c) ≡ false
 not_short c x = let h = length-append c x in grind (arith, nat_tests)
 
--- what is written is read, whatever follows
+-- length octets that were written are read back, whatever follows
 pub read_long_length-digits : (n p : ℕ) (x : List ℕ) → nat_lt n 128 ≡ false → read_long_length (length (digits_of 256 n)) p (digits_of 256 n ++ x) ≡ Ok (length (digits_of 256 n), n)
 unfolding read_long_length length_octets
 read_long_length-digits n p x long =

@@ -1,4 +1,4 @@
--- Faults of octets: every kind but want of memory (1), and a reader or a writer that had refused before (17).
+-- Errors in octets: every kind except lack of memory (1), and an earlier refusal of the reader or writer (17).
 use Rattle.std.proofs.Common.{ℕ, ◌+◌, ◌-◌, ◌/◌, ◌%◌, ◌^◌, nat_lt, nat_le, ◌==◌, nat_eq, if◌then◌else◌, Bool, true, false, List, [], ◌∷◌, length, take, drop, Option, Some, None, Result, Ok, Err, refl, IsTrue}
 use Rattle.std.specs.Int.Digits.{number_from_digits}
 use Rattle.std.specs.Cmp.Lexicographic.{pointwise}
@@ -16,12 +16,12 @@ is_of_octets Memory = false
 is_of_octets Failed = false
 is_of_octets _ = true
 
--- what octets come to is a value, or a fault of theirs
+-- the result of reading octets is a value, or an error in them
 abbrev pub IsOfOctets : {A : Type 0} → Result A ErrorKind → Type 0
 IsOfOctets (Ok v) = Unit {0}
 IsOfOctets (Err k) = IsTrue (is_of_octets k)
 
--- it is so where both of two cases are
+-- this holds of a choice if it holds of both cases
 pub of_octets_either : {A : Type 0} (b : Bool) (r s : Result A ErrorKind) → IsOfOctets r → IsOfOctets s → IsOfOctets (if b then r else s)
 of_octets_either true r s a c = a
 of_octets_either false r s a c = c
@@ -54,7 +54,7 @@ numbered_of_octets : (first : ℕ) (r : Result (ℕ × ℕ) ErrorKind) → IsOfO
 numbered_of_octets first (Ok (count, n)) h = counted_of_octets (1 + count) (tag_of_octets first n) (first_of_octets first n)
 numbered_of_octets first (Err k) h = h
 
--- the faults of identifier octets
+-- the errors in identifier octets
 pub tag_of_octets_read : (p : ℕ) (octets : List ℕ) → IsOfOctets (read_tag p octets)
 unfolding read_tag
 tag_of_octets_read p [] = of_octets_missing (p + 0) 1 0
@@ -71,7 +71,7 @@ after_of_octets : (r : Result (ℕ × ℕ) ErrorKind) → IsOfOctets r → IsOfO
 after_of_octets (Ok (count, n)) h = tt
 after_of_octets (Err k) h = h
 
--- the faults of length octets
+-- the errors in length octets
 pub length_of_octets_read : (p : ℕ) (octets : List ℕ) → IsOfOctets (read_length p octets)
 unfolding read_length
 length_of_octets_read p [] = of_octets_missing (p + 0) 1 0
@@ -86,7 +86,7 @@ with_tag_of_octets : (p : ℕ) (octets : List ℕ) (r : Result (ℕ × Tag) Erro
 with_tag_of_octets p octets (Ok (count, t)) h = with_length_of_octets count t (read_length (p + count) (drop count octets)) (length_of_octets_read (p + count) (drop count octets))
 with_tag_of_octets p octets (Err k) h = h
 
--- the faults of a header
+-- the errors in a header
 pub header_of_octets_read : (p : ℕ) (octets : List ℕ) → IsOfOctets (read_header p octets)
 unfolding read_header
 header_of_octets_read p octets = with_tag_of_octets p octets (read_tag p octets) (tag_of_octets_read p octets)

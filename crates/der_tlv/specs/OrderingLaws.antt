@@ -1,4 +1,4 @@
--- Laws of orders: one after another, and those of numbers.
+-- Laws of orderings: in sequence, and of numbers.
 use Rattle.std.specs.Ordering.{nat_cmp, ordering_then, is_eq}
 use Rattle.std.specs.declared.cmp.Ordering.{Ordering}
 use Rattle.std.specs.declared.cmp.Ordering.TheVariants.{Less, Equal, Greater}
@@ -6,9 +6,9 @@ use Rattle.std.proofs.Common.{◌≡◌, ◌≢◌, ℕ, ◌<◌, true, refl, sy
 use Rattle.std.proofs.lemmas.Bool.Decides.{nat_tests}
 use Rattle.std.proofs.lemmas.Cmp.{ranked}
 
--- ---- one after another
+-- ---- in sequence
 
--- however they are grouped
+-- the grouping does not matter
 pub then_assoc : (o p q : Ordering) → ordering_then o (ordering_then p q) ≡ ordering_then (ordering_then o p) q
 then_assoc Less p q = refl
 then_assoc Equal p q = refl
@@ -19,13 +19,13 @@ then_equal Less = refl
 then_equal Equal = refl
 then_equal Greater = refl
 
--- one that is not equal decides
+-- an ordering that is not equal decides
 pub then_decided : (o p : Ordering) → o ≢ Equal → ordering_then o p ≡ o
 then_decided Less p h = refl
 then_decided Equal p h = absurd (h refl)
 then_decided Greater p h = refl
 
--- what follows counts only where it is equal
+-- the second ordering matters only if the first is equal
 pub then_within : (o p q : Ordering) → (o ≡ Equal → p ≡ q) → ordering_then o p ≡ ordering_then o q
 then_within Less p q h = refl
 then_within Equal p q h = h refl

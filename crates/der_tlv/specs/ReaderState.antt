@@ -1,11 +1,11 @@
--- What a reader shows, and what each call makes of it.
+-- The state of a reader, and the state after each call.
 use Rattle.std.specs.Prelude.{ℕ, ◌+◌, ◌-◌, ◌^◌, ◌<◌, ◌≤◌, List, length, take, drop, Bool, true, false, nat_lt, nat_le, ◌&&◌, ◌==◌, not, if◌then◌else◌, Result, Err}
 use Rattle.der_tlv.specs.declared.error.ErrorKind.{ErrorKind}
 use Rattle.der_tlv.specs.declared.error.ErrorKind.TheVariants.{Incomplete, Overflow, Failed, TrailingData}
 use Rattle.der_tlv.specs.declared.encoding_rules.EncodingRules.{EncodingRules}
 use Rattle.der_tlv.specs.declared.reader.source.Cursor.{Cursor}
 
--- the whole input, the position in it, where the octets that are shown now end, whether a call has refused, and the rules
+-- the whole input, the position in it, the end of the octets that are shown now, whether a call has refused, and the rules
 pub record ReaderState : Type 0 where
   pub input : List ℕ
   pub position : ℕ
@@ -13,7 +13,7 @@ pub record ReaderState : Type 0 where
   pub failed : Bool
   pub rules : EncodingRules
 
--- what holds of every reader
+-- the properties of every reader
 pub record IsReaderState (s : ReaderState) : Type 0 where
   pub ordered : s.position ≤ s.end
   pub inside : s.end ≤ length s.input
@@ -23,11 +23,11 @@ pub record IsReaderState (s : ReaderState) : Type 0 where
 abbrev pub new_reader : List ℕ → EncodingRules → ReaderState
 new_reader input rules = record { input = input; position = 0; end = length input; failed = false; rules = rules }
 
--- the same input, read from where the cursor says
+-- this input, read from the cursor on
 abbrev pub with_cursor : ReaderState → Cursor → ReaderState
 with_cursor s c = record { input = s.input; position = c.position; end = c.end; failed = c.failed; rules = c.rules }
 
--- the octets that it can still give
+-- the octets that the reader can still read
 abbrev pub rest : ReaderState → List ℕ
 rest s = drop s.position (take s.end s.input)
 
@@ -52,7 +52,7 @@ can_read s n = not s.failed && nat_le (s.position + n) s.end
 abbrev pub can_unnest : ReaderState → ℕ → Bool
 can_unnest s end = not s.failed && (s.position == s.end) && nat_le s.end end && nat_le end (length s.input)
 
--- the fault of a read of n octets at position p, where only so many are left
+-- the error of reading n octets at position p, where only `left` octets are left
 abbrev pub read_fault_at : ℕ → ℕ → ℕ → ErrorKind
 read_fault_at p n left = if nat_lt (p + n) (2 ^ 32) then Incomplete (p + n) (p + left) else Overflow
 
@@ -62,7 +62,7 @@ read_fault s n = if s.failed then Failed else (if nat_lt (s.position + n) (2 ^ 3
 abbrev pub unnest_fault : ReaderState → ErrorKind
 unnest_fault s = if s.failed then Failed else (if s.position == s.end then Overflow else TrailingData s.position (length (rest s)))
 
--- what a reader sees of a result that depends on its position and the octets left: a reader that has refused sees (17)
+-- the result that a reader gets from a function of its position and the octets left: (17) if the reader has refused
 abbrev pub unless_failed : {A : Type 0} → (ℕ → List ℕ → Result A ErrorKind) → ReaderState → Result A ErrorKind
 unless_failed parse s = if s.failed then Err Failed else parse s.position (rest s)
 

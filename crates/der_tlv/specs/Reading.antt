@@ -1,4 +1,4 @@
--- What the calls of readers answer, and what stands after each.
+-- The results of the calls of readers, and the state after each.
 use Rattle.std.specs.Prelude.{◌≡◌, ℕ, ◌^◌, ◌<◌, ◌≤◌, List, [], ◌∷◌, length, take, true, false, Result, Ok, Err}
 use Rattle.der_tlv.specs.declared.error.ErrorKind.{ErrorKind}
 use Rattle.der_tlv.specs.declared.error.ErrorKind.TheVariants.{Overflow, Failed}
@@ -6,14 +6,14 @@ use Rattle.der_tlv.specs.declared.error.Error.{Error}
 use Rattle.der_tlv.specs.declared.encoding_rules.EncodingRules.{EncodingRules}
 use Rattle.der_tlv.specs.ReaderState.{ReaderState, rest, after_read, after_fault, can_read, read_fault, read_fault_at, after_nest, after_unnest, can_unnest, unnest_fault, new_reader, unless_failed}
 
--- a refusal: its kind, and the reader failed and otherwise as it was
+-- a refusal: its kind, and a reader that has failed and is otherwise unchanged
 pub record Refuses (old new : ReaderState) (kind fault : ErrorKind) : Type 0 where
   pub fault_is : kind ≡ fault
   pub after : new ≡ after_fault old
 
--- What every call leaves that is handed a reader and refuses, whatever it had read before: the reader is failed; its input and its
--- rules are those from before; its position is not before the old one, and its end not after the old one (every reader stands at its
--- end or before it). On a reader that had failed nothing changes, and the answer is (17).
+-- The state after a call that uses a reader and refuses, whatever it had read before: the reader is failed; its input and its rules are
+-- unchanged; its position is not before the old one, and its end is not after the old one (no reader's position is after its end).
+-- On a reader that had failed nothing changes, and the result is (17).
 pub record Refused (old new : ReaderState) (kind : ErrorKind) : Type 0 where
   pub failed : new.failed ≡ true
   pub input : new.input ≡ old.input
@@ -22,7 +22,7 @@ pub record Refused (old new : ReaderState) (kind : ErrorKind) : Type 0 where
   pub narrower : new.end ≤ old.end
   pub again : old.failed ≡ true → (kind ≡ Failed) × (new ≡ old)
 
--- What every call leaves that reads and refuses nothing: the reader had not failed, and has gone on.
+-- The state after a call that reads without a refusal: the reader had not failed, and its position is not before the old one.
 pub record Passed (old new : ReaderState) : Type 0 where
   pub ready : old.failed ≡ false
   pub still : new.failed ≡ false
@@ -31,7 +31,7 @@ pub record Passed (old new : ReaderState) : Type 0 where
   pub end : new.end ≡ old.end
   pub onward : old.position ≤ new.position
 
--- what stands after a call that reads, whatever is read
+-- the state after a call that reads, for any value
 abbrev pub Stands : {A : Type 0} → ReaderState → ReaderState → Result A Error → Type 0
 Stands old new (Ok v) = Passed old new
 Stands old new (Err e) = Refused old new e.kind
@@ -42,26 +42,26 @@ pub record OctetRead (old new : ReaderState) (octet : ℕ) : Type 0 where
   pub first : rest old ≡ octet ∷ rest new
   pub after : new ≡ after_read old 1
 
--- what reading an octet answers
+-- the result of reading an octet
 abbrev pub ReadsOctet : ReaderState → ReaderState → Result ℕ Error → Type 0
 ReadsOctet old new (Ok octet) = OctetRead old new octet
 ReadsOctet old new (Err e) =
     Refuses old new e.kind (read_fault old 1) × (old.failed ≡ false → rest old ≡ []) × (old.failed ≡ false → e.kind ≡ read_fault_at old.position 1 0)
 
--- so many octets were read
+-- n octets were read
 pub record OctetsRead (old new : ReaderState) (n : ℕ) (octets : List ℕ) : Type 0 where
   pub readable : can_read old n ≡ true
   pub value : octets ≡ take n (rest old)
   pub count : length octets ≡ n
   pub after : new ≡ after_read old n
 
--- a refusal of so many octets
+-- a refusal to read n octets
 pub record OctetsRefused (old new : ReaderState) (n : ℕ) (kind : ErrorKind) : Type 0 where
   pub unreadable : can_read old n ≡ false
   pub fault_is : kind ≡ read_fault old n
   pub after : new ≡ after_fault old
 
--- what nesting answers: the end so far
+-- nesting returns the end before it
 pub record Nested (old new : ReaderState) (n end : ℕ) : Type 0 where
   pub readable : can_read old n ≡ true
   pub end_is : end ≡ old.end
@@ -85,24 +85,24 @@ abbrev pub Unnests : ReaderState → ReaderState → ℕ → Result (Unit {0}) E
 Unnests old new end (Ok u) = Unnested old new end
 Unnests old new end (Err e) = UnnestRefused old new end e.kind
 
--- something was read that takes these octets
+-- a value was read whose octets are these
 pub record HeadRead {A : Type 0} (parse : ℕ → List ℕ → Result (ℕ × A) ErrorKind) (octets : List ℕ) (old new : ReaderState) (v : A) : Type 0 where
   pub ready : old.failed ≡ false
   pub parsed : parse old.position (rest old) ≡ Ok (length octets, v)
   pub taken : take (length octets) (rest old) ≡ octets
   pub after : new ≡ after_read old (length octets)
 
--- the first fault of what should have been read
+-- the first error of the value that should have been read
 pub record HeadFault {A : Type 0} (parse : ℕ → List ℕ → Result (ℕ × A) ErrorKind) (old new : ReaderState) (kind : ErrorKind) : Type 0 where
   pub fault_is : unless_failed parse old ≡ Err kind
   pub reader : Refused old new kind
 
--- what a call answers that reads a value from these octets
+-- the result of a call that reads a value with these octets
 abbrev pub ReadsHead : {A : Type 0} → (ℕ → List ℕ → Result (ℕ × A) ErrorKind) → (A → List ℕ) → ReaderState → ReaderState → Result A Error → Type 0
 ReadsHead parse octets_of old new (Ok v) = HeadRead parse (octets_of v) old new v
 ReadsHead parse octets_of old new (Err e) = HeadFault parse old new e.kind
 
--- looking at what comes next: the reader stays, or has failed
+-- looking at the next value: the reader is unchanged, or has failed
 pub record HeadSeen {A : Type 0} (parse : ℕ → List ℕ → Result (ℕ × A) ErrorKind) (octets : List ℕ) (old new : ReaderState) (v : A) : Type 0 where
   pub ready : old.failed ≡ false
   pub parsed : parse old.position (rest old) ≡ Ok (length octets, v)
@@ -113,7 +113,7 @@ abbrev pub PeeksHead : {A : Type 0} → (ℕ → List ℕ → Result (ℕ × A) 
 PeeksHead parse octets_of old new (Ok v) = HeadSeen parse (octets_of v) old new v
 PeeksHead parse octets_of old new (Err e) = HeadFault parse old new e.kind
 
--- a reader of all of the octets, where a length can say how many they are
+-- a reader of all the octets, if their number fits a length
 abbrev pub Opens : List ℕ → EncodingRules → Result ReaderState Error → Type 0
 Opens octets rules (Ok s) = (s ≡ new_reader octets rules) × (length octets < 2 ^ 32)
 Opens octets rules (Err e) = (e.kind ≡ Overflow) × (2 ^ 32 ≤ length octets)

@@ -6,10 +6,10 @@ use Rattle.std.specs.Int.Digits.{digits_of}
 abbrev pub mark_digits : List ℕ → List ℕ
 mark_digits digits = map (λ d. 128 + d) digits
 
--- the octets of a number in base 128 before its last digit, if n is what they write
+-- the octets before the last digit of a number in base 128, where n is the number that they write
 abbrev pub leading_octets : ℕ → List ℕ
 leading_octets n = mark_digits (digits_of 128 n)
 
--- A number with the digit of one more octet: none where the number passes 32 bits, begins with a zero digit or ends below 31.
+-- A number with the digit of one more octet: none if the number exceeds 32 bits, begins with a zero digit or ends below 31.
 abbrev pub with_digit : ℕ → ℕ → Option ℕ
 with_digit n octet = if nat_le (2 ^ 25) n || ((n == 0) && (nat_lt octet 31 || (octet == 128))) then None else Some (n * 128 + octet % 128)

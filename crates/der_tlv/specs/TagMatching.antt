@@ -14,28 +14,28 @@ use Rattle.der_tlv.specs.Reading.{Refused}
 abbrev pub has_number : Class → ℕ → Tag → Bool
 has_number class number t = (class_index (class_of t) == class_index class) && (number_of t == number)
 
--- the same of a tag that was read
+-- whether a tag that was read has a class and a number
 abbrev pub match_read : Class → ℕ → Result (ℕ × Tag) ErrorKind → Result Bool ErrorKind
 match_read class number (Ok (count, t)) = Ok (has_number class number t)
 match_read class number (Err k) = Err k
 
--- Whether the tag at position p has a class and a number: false where no octet is left.
+-- Whether the tag at position p has a class and a number: false if no octet is left.
 abbrev pub match_tag : Class → ℕ → ℕ → List ℕ → Result Bool ErrorKind
 match_tag class number p [] = Ok false
 match_tag class number p (x ∷ xs) = match_read class number (read_tag p (x ∷ xs))
 
--- the next tag was looked at, and the reader stays
+-- the next tag was looked at, and the reader is unchanged
 pub record MatchSeen (class : Class) (number : ℕ) (old new : ReaderState) (found : Bool) : Type 0 where
   pub ready : old.failed ≡ false
   pub found_is : match_tag class number old.position (rest old) ≡ Ok found
   pub after : new ≡ old
 
--- the first fault of the next tag
+-- the first error of the next tag
 pub record MatchFault (class : Class) (number : ℕ) (old new : ReaderState) (kind : ErrorKind) : Type 0 where
   pub fault_is : unless_failed (match_tag class number) old ≡ Err kind
   pub reader : Refused old new kind
 
--- what a call answers that asks whether the next tag has a class and a number
+-- the result of a call that asks whether the next tag has a class and a number
 abbrev pub PeeksMatch : Class → ℕ → ReaderState → ReaderState → Result Bool Error → Type 0
 PeeksMatch class number old new (Ok found) = MatchSeen class number old new found
 PeeksMatch class number old new (Err e) = MatchFault class number old new e.kind

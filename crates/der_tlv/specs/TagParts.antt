@@ -53,7 +53,7 @@ number_of (Private constructed number) = number.0
 abbrev pub IsTag : Tag → Type 0
 IsTag t = number_of t < 2 ^ 32
 
--- the universal tag of a number, of those that this layer knows
+-- the universal tag with this number, if this layer knows it
 abbrev pub universal_tag : ℕ → Option Tag
 universal_tag n =
     if n == 1 then Some Boolean

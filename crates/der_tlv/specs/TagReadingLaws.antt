@@ -23,16 +23,16 @@ use Rattle.der_tlv.specs.IdentifierLaws.Sized.{short, long}
 abbrev is_high : ℕ → Bool
 is_high d = nat_le 128 d
 
--- digits with bit 8 set count among those
+-- digits with bit 8 set count as octets with bit 8 set
 prefix_len-mark_digits : (a ys : List ℕ) → prefix_len is_high (mark_digits a ++ ys) ≡ length a + prefix_len is_high ys
 prefix_len-mark_digits [] ys = sym (zero-add (prefix_len is_high ys))
 prefix_len-mark_digits (d ∷ a) ys = let e = prefix_len-mark_digits a ys in grind (arith, nat_tests, e)
 
--- so many octets have bit 8 set before the last
+-- digits with bit 8 set add to the number of octets before the last
 pub high_count-mark_digits : (a ys : List ℕ) → high_count (mark_digits a ++ ys) ≡ length a + high_count ys
 high_count-mark_digits a ys = length-prefix_len is_high (mark_digits a ++ ys) ∙ prefix_len-mark_digits a ys ∙ ap (λ n. length a + n) (sym (length-prefix_len is_high ys))
 
--- so many octets from the beginning, past those with bit 8 set
+-- taking octets past those with bit 8 set
 take-mark_digits : (a ys : List ℕ) (n : ℕ) → take (length a + n) (mark_digits a ++ ys) ≡ mark_digits a ++ take n ys
 take-mark_digits [] ys n = ap (λ k. take k ys) (zero-add n)
 take-mark_digits (d ∷ a) ys n =
@@ -58,14 +58,14 @@ digits_from-mark_digits a ys h =
     ∙ map-append (λ d. d % 128) (mark_digits a) (take (high_count ys + 1) ys)
     ∙ ap (λ z. z ++ digits_from ys) (low-mark_digits a h)
 
--- the number that digits, and then these octets, write
+-- the number that the leading octets, followed by these octets, write
 pub number_value-leading : (n : ℕ) (ys : List ℕ) → number_value (leading_octets n ++ ys) ≡ number_from_digits_after 128 n (digits_from ys)
 number_value-leading n ys =
     ap (number_from_digits 128) (digits_from-mark_digits (digits_of 128 n) ys (all_below_base_digits_of 128 n (omega arith)))
     ∙ number_after_append 128 0 (digits_of 128 n) (digits_from ys)
     ∙ ap (λ k. number_from_digits_after 128 k (digits_from ys)) (number_digits_of 128 n (omega arith))
 
--- what a number comes to: whether its first digit is zero, how many octets there are, how many of them have bit 8 set, the number, and the fault of a missing octet
+-- the result of reading a number: whether its first digit is zero, its octets, those of them with bit 8 set, the number, and the error for a missing octet
 number_outcome : Bool → ℕ → ℕ → ℕ → ErrorKind → Result (ℕ × ℕ) ErrorKind
 number_outcome zero_first count high n missing =
     if zero_first then Err TagNumberInvalid
@@ -74,7 +74,7 @@ number_outcome zero_first count high n missing =
     else (if nat_lt n 31 then Err TagNumberInvalid
     else Ok (high + 1, n))))
 
--- a number that passes 32 bits
+-- a number that exceeds 32 bits
 outcome-great : (z : Bool) (l h n : ℕ) (e : ErrorKind) → 2 ^ 32 ≤ n → number_outcome z l h n e ≡ Err TagNumberInvalid
 unfolding number_outcome
 outcome-great z l h n e p = grind (arith, nat_tests)
@@ -89,7 +89,7 @@ outcome-missing : (l h n : ℕ) (e : ErrorKind) → n < 2 ^ 32 → l ≤ h → n
 unfolding number_outcome
 outcome-missing l h n e p q = grind (arith, nat_tests)
 
--- a number that is there
+-- a complete number
 outcome-ok : (l h n : ℕ) (e : ErrorKind) → n < 2 ^ 32 → 31 ≤ n → h < l → number_outcome false l h n e ≡ Ok (h + 1, n)
 unfolding number_outcome
 outcome-ok l h n e p q r = grind (arith, nat_tests)
@@ -111,16 +111,16 @@ first-mark_digits (d ∷ a) ys h = λ e. let k : 128 + d ≡ 128 = e in omega ar
 first-leading : (n : ℕ) (ys : List ℕ) → 0 < n → get_or (leading_octets n ++ ys) 0 0 ≢ 128
 first-leading n ys h = first-mark_digits (digits_of 128 n) ys (first_digits_of 128 n (omega arith) h)
 
--- how many octets there are, with those that follow
+-- the number of octets, with those that follow
 length-leading : (n : ℕ) (ys : List ℕ) → length (leading_octets n ++ ys) ≡ length (digits_of 128 n) + length ys
 length-leading n ys = let a = length-append (leading_octets n) ys in let b = length-map (digits_of 128 n) (λ d. 128 + d) in omega arith
 
--- by the case of zero and that of a positive number
+-- a proof by cases: zero, and a positive number
 from_zero : (P : ℕ → Type 0) → P 0 → ((n : ℕ) → 0 < n → P n) → (n : ℕ) → P n
 from_zero P at_zero above zero = at_zero
 from_zero P at_zero above (suc n) = above (suc n) (omega arith)
 
--- a list with a positive first number has one
+-- a list with a positive first number is not empty
 reads_some : (a : List ℕ) → 0 < get_or a 0 0 → 0 < length a
 reads_some [] k = absurd (omega arith)
 reads_some (d ∷ a) k = omega arith
@@ -142,7 +142,7 @@ unfolding read_number
 read_number-missing p n h = from_zero (λ k. k < 2 ^ 32 → read_number p (leading_octets k) ≡ Err (octet_missing p (leading_octets k))) (λ _. refl)
     (λ k l b. ap (read_number p) (sym (append-nil (leading_octets k))) ∙ missing-above p k b l ∙ ap (λ z. Err (octet_missing p z)) (append-nil (leading_octets k))) n h
 
--- a last octet alone
+-- no octet has bit 8 set before a last octet
 high_count-last : (x : ℕ) (xs : List ℕ) → x < 128 → high_count (x ∷ xs) ≡ 0
 high_count-last x xs h = length-prefix_len is_high (x ∷ xs) ∙ (grind (arith, nat_tests))
 
@@ -150,7 +150,7 @@ high_count-last x xs h = length-prefix_len is_high (x ∷ xs) ∙ (grind (arith,
 digits_from-last : (x : ℕ) (xs : List ℕ) → x < 128 → digits_from (x ∷ xs) ≡ x ∷ []
 digits_from-last x xs h = let e : x % 128 ≡ x = omega arith in ap (λ k. map (λ d. d % 128) (take (k + 1) (x ∷ xs))) (high_count-last x xs h) ∙ ap (λ k. k ∷ []) e
 
--- a number that passes 32 bits with its next digit
+-- a number that exceeds 32 bits with its next digit
 value-great : (n x : ℕ) (xs : List ℕ) → 2 ^ 25 ≤ n → 2 ^ 32 ≤ number_value (leading_octets n ++ (x ∷ xs))
 value-great n x xs h =
     let e = number_value-leading n (x ∷ xs) in
@@ -202,7 +202,7 @@ is_digit n x v e = let k = some-or-none (nat_le (2 ^ 25) n) (n == 0) (nat_lt x 3
   value = k.0;
 }
 
--- a number that passes 32 bits with its next digit is refused
+-- a number that exceeds 32 bits with its next digit is refused
 invalid-great : (p n x : ℕ) (xs : List ℕ) → 2 ^ 25 ≤ n → read_number p (leading_octets n ++ (x ∷ xs)) ≡ Err TagNumberInvalid
 invalid-great p n x xs h =
     let octets : List ℕ = leading_octets n ++ (x ∷ xs) in
@@ -227,7 +227,7 @@ invalid-zero : (p n x : ℕ) (xs : List ℕ) → n ≡ 0 → x ≡ 128 → read_
 unfolding read_number
 invalid-zero p n x xs z h = ap (λ k. read_number p (leading_octets k ++ (x ∷ xs))) z ∙ ap (λ k. read_number p (k ∷ xs)) h ∙ refl
 
--- a digit that no tag number has there
+-- an octet that is no valid next digit is refused
 pub read_number-invalid : (p n x : ℕ) (xs : List ℕ) → with_digit n x ≡ None → read_number p (leading_octets n ++ (x ∷ xs)) ≡ Err TagNumberInvalid
 read_number-invalid p n x xs e = elim (no_digit n x e) [ great h ↦ invalid-great p n x xs h | small z h ↦ invalid-small p n x xs z h | zero_digit z h ↦ invalid-zero p n x xs z h ]
 
@@ -243,7 +243,7 @@ number_octets-last n x v e h =
     let low : x ≡ v % 128 = omega arith in
     ap (λ k. leading_octets k ++ (x ∷ [])) high ∙ ap (λ k. leading_octets (v / 128) ++ (k ∷ [])) low
 
--- a number that ends is above 30
+-- a number that ends is at least 31
 at_least : (n x v : ℕ) → IsDigit n x v → x < 128 → 31 ≤ v
 at_least n x v d h = from_zero (λ k. (k ≡ 0 → (31 ≤ x) × (x ≢ 128)) → v ≡ k * 128 + x % 128 → 31 ≤ v) (λ f g. let great = (f refl).0 in omega arith) (λ k above f g. omega arith) n d.counts d.value
 
@@ -275,11 +275,11 @@ read_number-last p n x v xs e h =
 pub with_digit-fits : (n x v : ℕ) → with_digit n x ≡ Some v → v < 2 ^ 32
 with_digit-fits n x v e = let d = is_digit n x v e in let f = d.fits in let g = d.value in omega arith
 
--- a number that ends is above 30
+-- a number that ends is at least 31
 pub with_digit-long : (n x v : ℕ) → with_digit n x ≡ Some v → x < 128 → 31 ≤ v
 with_digit-long n x v e h = at_least n x v (is_digit n x v e) h
 
--- a digit of a tag number that others follow
+-- a digit of a tag number, followed by others
 pub leading_octets-more : (n x v : ℕ) → with_digit n x ≡ Some v → 128 ≤ x → x < 256 → leading_octets n ++ (x ∷ []) ≡ leading_octets v
 leading_octets-more n x v e h l =
     let d = is_digit n x v e in
@@ -290,7 +290,7 @@ leading_octets-more n x v e h l =
     sym (ap mark_digits (digits_of_step 128 v (omega arith) some) ∙ map-append (λ k. 128 + k) (digits_of 128 (v / 128)) (v % 128 ∷ [])
     ∙ ap (λ k. leading_octets k ++ ((128 + v % 128) ∷ [])) high ∙ ap (λ k. leading_octets n ++ (k ∷ [])) low)
 
--- the number where no test refuses it
+-- the number, if no test refuses it
 digit-some : (a b c d : Bool) (v w : ℕ) → a ≡ false → (b && c) ≡ false → d ≡ false → v ≡ w → (if a || (b && (c || d)) then None else Some v) ≡ Some w
 digit-some true b c d v w e f g h = absurd (cc)
 digit-some false true true d v w e f g h = absurd (cc)
@@ -298,7 +298,7 @@ digit-some false true false true v w e f g h = absurd (cc)
 digit-some false true false false v w e f g h = cc
 digit-some false false c d v w e f g h = cc
 
--- the last digit of a tag number is one
+-- the last digit of a tag number is a valid digit
 number-digit : (v : ℕ) → 31 ≤ v → v < 2 ^ 32 → with_digit (v / 128) (v % 128) ≡ Some v
 number-digit v l h =
     let whole : v / 128 * 128 + v % 128 % 128 ≡ v = omega arith in
@@ -359,7 +359,7 @@ pub tag_of_octets-parts : (first n : ℕ) → tag_of_octets first n ≡ tag_of_p
 unfolding tag_of_parts
 tag_of_octets-parts first n = refl
 
--- the tag of its own first octet and number
+-- the first octet and the number of a tag give that tag
 pub tag_of_octets-tag : (t : Tag) (low : ℕ) → low < 32 → tag_of_octets (first_octet (class_of t) (is_constructed t) low) (number_of t) ≡ Ok t
 tag_of_octets-tag t low h =
     let first : ℕ = first_octet (class_of t) (is_constructed t) low in
@@ -373,7 +373,7 @@ pub read_tag-short : (p first : ℕ) (xs : List ℕ) → first % 32 ≢ 31 → r
 unfolding read_tag
 read_tag-short p first xs h = let e : (first % 32 == 31) ≡ false = grind (arith, nat_tests) in ap (λ b. if b then tag_with_number first (read_number (p + 1) xs) else counted_tag 1 (tag_of_octets first (first % 32))) e
 
--- reading a first identifier octet that a number follows
+-- reading a first identifier octet, followed by a number
 pub read_tag-long : (p first : ℕ) (xs : List ℕ) → first % 32 ≡ 31 → read_tag p (first ∷ xs) ≡ tag_with_number first (read_number (p + 1) xs)
 unfolding read_tag
 read_tag-long p first xs h = let e : (first % 32 == 31) ≡ true = grind (arith, nat_tests) in ap (λ b. if b then tag_with_number first (read_number (p + 1) xs) else counted_tag 1 (tag_of_octets first (first % 32))) e

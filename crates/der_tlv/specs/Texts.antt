@@ -1,4 +1,4 @@
--- What `{}` writes of tags and of errors.
+-- The texts that `{}` writes for tags and errors.
 use Rattle.std.specs.Prelude.{ℕ, Bool, true, false, List, ◌++◌, codes, decimal, Option, Some, None}
 use Rattle.std.specs.Fmt.{digits}
 use Rattle.der_tlv.specs.declared.error.Error.{Error}

@@ -1,4 +1,4 @@
--- What the readers and writers of this crate show of their fields.
+-- The states of the readers and writers of this crate, from their fields.
 use Rattle.std.specs.Prelude.{◌≡◌, ℕ, ◌-◌, List, length, take, drop, vec_len, vec_capacity, Result, OnOk, OnErr}
 use Rattle.std.specs.Borrow.{GName}
 use Rattle.der_tlv.specs.declared.error.Error.{Error}
@@ -21,16 +21,16 @@ abbrev pub slice_writer_state : SliceWriter → WriterState
 slice_writer_state w =
     record { taken = take w.position w.bytes.now; start = w.bytes.ref_ptr; failed = w.failed; room = room_unless_failed w.failed (length w.bytes.now - w.position); may_refuse = refuses_first_with is_overlength w.failed; back = no_back }
 
--- the memory that it writes to, as it stands
+-- the buffer that it writes to, in its present state
 abbrev pub buffer_of : SliceWriter → List ℕ
 buffer_of w = w.bytes.now
 
--- the name of the borrow of that memory
+-- the name of the borrow of that buffer
 abbrev pub lender_of : SliceWriter → GName
 lender_of w = w.bytes.ghost_name
 
--- What a write leaves of that memory: it is the same memory; where the write is refused all of it is as it was, and else what stands
--- after the octets taken.
+-- The buffer after a write: it is the same buffer; a refused write leaves all of it unchanged, and any other write leaves the octets
+-- after those that were taken unchanged.
 pub record LeavesBuffer {A : Type 0} (old new : SliceWriter) (result : Result A Error) : Type 0 where
   pub lender : lender_of new ≡ lender_of old
   pub refused : OnErr result (buffer_of new ≡ buffer_of old)
@@ -40,7 +40,7 @@ abbrev pub vec_writer_state : VecWriter → WriterState
 vec_writer_state w =
     record { taken = w.octets.items; start = (0, 0); failed = w.failed; room = room_unless_failed w.failed (vec_capacity w.octets - vec_len w.octets); may_refuse = refuses_first_with is_memory w.failed; back = no_back }
 
--- what a buffer shows at a place; its first octet stands at the origin in memory
+-- the state of a writer with this buffer and this `Place`; `origin` is the address of the first octet of the buffer
 abbrev pub place_state : ℕ × ℕ → List ℕ → Place → WriterState
 place_state origin octets p = back_state octets origin p.start p.gap p.filled p.failed
 

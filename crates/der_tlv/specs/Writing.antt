@@ -1,13 +1,13 @@
--- What a writer shows, and what a call that writes answers.
+-- The state of a writer, and the results of its calls.
 use Rattle.std.specs.Prelude.{◌≡◌, ℕ, ◌+◌, ◌<◌, ◌≤◌, List, ◌++◌, length, take, Bool, true, false, Result, Ok, Err, IsTrue}
 use Rattle.der_tlv.specs.declared.error.ErrorKind.{ErrorKind}
 use Rattle.der_tlv.specs.declared.error.ErrorKind.TheVariants.{Memory, Overlength, Failed}
 use Rattle.der_tlv.specs.declared.error.Error.{Error}
 use Rattle.der_tlv.specs.BackState.{BackState}
 
--- the octets that it has taken, where in memory the first of them stands (which no call changes; a writer whose octets move says
--- nothing of it), whether it has refused, how many more it surely takes, the kinds with which it may refuse now, and what it holds as
--- a writer that is filled from its end, which no call that writes forward changes
+-- the octets that it has taken, the address of the first of them (which no call changes; a writer whose octets move says nothing about
+-- it), whether it has refused, a number of octets that it is certain to take, the kinds with which it may refuse now, and its state as a
+-- writer that is filled from its end, which no call that writes forward changes
 pub record WriterState : Type 0 where
   pub taken : List ℕ
   pub start : ℕ × ℕ
@@ -25,7 +25,7 @@ pub record Wrote (octets : List ℕ) (old new : WriterState) : Type 0 where
   pub may_refuse : new.may_refuse ≡ old.may_refuse
   pub back : new.back ≡ old.back
 
--- a beginning of the octets was taken, and then the writer refused: it had refused before, or wants room
+-- a prefix of the octets was taken, and then the writer refused: it had refused before, or had too little space
 pub record WriterRefused (octets : List ℕ) (old new : WriterState) (kind : ErrorKind) : Type 0 where
   pub count : ℕ
   pub beginning : new.taken ≡ old.taken ++ take count octets
@@ -35,7 +35,7 @@ pub record WriterRefused (octets : List ℕ) (old new : WriterState) (kind : Err
   pub permitted : IsTrue (old.may_refuse kind)
   pub back : new.back ≡ old.back
 
--- a call of a writer with these octets
+-- the result of writing these octets
 abbrev pub Writes : {A : Type 0} → List ℕ → WriterState → WriterState → Result A Error → Type 0
 Writes octets old new (Ok v) = Wrote octets old new
 Writes octets old new (Err e) = WriterRefused octets old new e.kind
@@ -52,7 +52,7 @@ abbrev pub is_memory : ErrorKind → Bool
 is_memory Memory = true
 is_memory _ = false
 
--- a writer that refuses with (17) once it has refused
+-- the kinds with which a writer refuses: (17) once it has refused
 abbrev pub refuses_first_with : (ErrorKind → Bool) → Bool → ErrorKind → Bool
 refuses_first_with first true = is_failed
 refuses_first_with first false = first

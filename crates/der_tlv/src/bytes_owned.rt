@@ -1,4 +1,4 @@
-//! Owned octets whose number a length can say.
+//! Owned octets whose number fits a length.
 
 ghost use Rattle.std.specs.Prelude.{◌≡◌, ◌↔◌, ◌^◌, ◌<◌, [], length, IsTrue, IsOk, IfOk, IfErr};
 ghost use Rattle.der_tlv.specs.declared.error.ErrorKind.TheVariants.{Overflow};
@@ -8,7 +8,7 @@ use crate::error::Error;
 use crate::length::Length;
 use std::alloc::AllocError;
 
-/// Owned octets, of which there are at most 4294967295.
+/// Owned octets, at most 4294967295 of them.
 #[derive(Debug, Drop, PartialEq, Eq, PartialOrd, Ord, Hash)]
 pub struct BytesOwned {
     /// The octets.
@@ -17,7 +17,7 @@ pub struct BytesOwned {
 }
 
 impl BytesOwned {
-    /// These octets.
+    /// Wraps these octets.
     ///
     /// # Errors
     /// `ErrorKind::Overflow` (9) for more than 4294967295 octets.
@@ -30,14 +30,14 @@ impl BytesOwned {
         Ok(BytesOwned { octets })
     }
 
-    /// The octets.
+    /// Returns the octets.
     pub fn as_slice(&self) -> &[u8]
         ensures { result.now ≡ self.now.octets.items }
     {
         &self.octets
     }
 
-    /// The octets, borrowed.
+    /// Borrows the octets.
     pub fn to_ref(&self) -> BytesRef<'_>
         ensures { result.octets.now ≡ self.now.octets.items }
     {
@@ -46,21 +46,21 @@ impl BytesOwned {
         }
     }
 
-    /// The octets, in their vector.
+    /// Returns the vector of the octets.
     pub fn into_vec(self) -> Vec<u8>
         ensures { result.items ≡ self.octets.items }
     {
         self.octets
     }
 
-    /// The number of octets.
+    /// Returns the number of octets.
     pub fn len(&self) -> Length
         ensures { result ≡ length self.now.octets.items }
     {
         Length::new(self.octets.len() as u32)
     }
 
-    /// Whether it has no octets.
+    /// Returns whether there are no octets.
     pub fn is_empty(&self) -> bool
         ensures { IsTrue result ↔ (self.now.octets.items ≡ []) }
     {

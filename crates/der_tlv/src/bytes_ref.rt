@@ -1,4 +1,4 @@
-//! Borrowed octets whose number a length can say.
+//! Borrowed octets whose number fits a length.
 
 ghost use Rattle.std.specs.Prelude.{◌≡◌, ◌↔◌, ◌^◌, ◌<◌, [], length, IsTrue, IsOk, IfOk, IfErr};
 ghost use Rattle.der_tlv.specs.declared.error.ErrorKind.TheVariants.{Overflow};
@@ -6,7 +6,7 @@ ghost use Rattle.der_tlv.specs.declared.error.ErrorKind.TheVariants.{Overflow};
 use crate::error::Error;
 use crate::length::Length;
 
-/// Borrowed octets, of which there are at most 4294967295.
+/// Borrowed octets, at most 4294967295 of them.
 #[derive(Clone, Copy, Debug, PartialEq, Eq, PartialOrd, Ord, Hash)]
 pub struct BytesRef<'a> {
     /// The octets.
@@ -15,7 +15,7 @@ pub struct BytesRef<'a> {
 }
 
 impl<'a> BytesRef<'a> {
-    /// These octets.
+    /// Wraps these octets.
     ///
     /// # Errors
     /// `ErrorKind::Overflow` (9) for more than 4294967295 octets.
@@ -30,21 +30,21 @@ impl<'a> BytesRef<'a> {
         }
     }
 
-    /// The octets.
+    /// Returns the octets.
     pub fn as_slice(self) -> &'a [u8]
         ensures { result.now ≡ self.entry.octets.now }
     {
         self.octets
     }
 
-    /// The number of octets.
+    /// Returns the number of octets.
     pub fn len(self) -> Length
         ensures { result ≡ length self.entry.octets.now }
     {
         Length::new(self.octets.len() as u32)
     }
 
-    /// Whether it has no octets.
+    /// Returns whether there are no octets.
     pub fn is_empty(self) -> bool
         ensures { IsTrue result ↔ (self.entry.octets.now ≡ []) }
     {

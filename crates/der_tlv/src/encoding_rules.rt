@@ -4,19 +4,19 @@ ghost use Rattle.std.specs.Prelude.{◌≡◌, ◌↔◌, IsTrue};
 
 /// The encoding rules of X.690 that a reader follows.
 ///
-/// `Ber` reads the same headers and contents as `Der`; it lifts one check, that of the constructed
-/// bit of an implicitly tagged field.
+/// `Ber` reads the same headers and contents as `Der`; it omits one check, that of the
+/// constructed bit of an implicitly tagged field.
 #[derive(Clone, Copy, Debug, PartialEq, Eq, Default)]
 pub enum EncodingRules {
     /// The distinguished encoding rules: one encoding for each value.
     #[default]
     Der,
-    /// The basic encoding rules, as far as they go here.
+    /// The basic encoding rules, as far as this layer supports them.
     Ber,
 }
 
 impl EncodingRules {
-    /// Whether these are the distinguished encoding rules.
+    /// Returns whether these are the distinguished encoding rules.
     pub fn is_der(self) -> bool
         ensures { IsTrue result ↔ (self ≡ EncodingRules.Der) }
     {
@@ -27,7 +27,7 @@ impl EncodingRules {
     }
 }
 
-/// The rules are DER where nothing else is said.
+/// Returns the default rules, which are DER.
 pub fn default_rules() -> EncodingRules
     ensures { result ≡ EncodingRules.Der }
 {

@@ -9,68 +9,69 @@ use crate::length::Length;
 use crate::tag::Tag;
 use std::alloc::AllocError;
 
-/// What was refused.
+/// The kind of an error.
 ///
-/// Each kind has a number, 1 to 17, in the order in which they stand here.
+/// Each kind has a number from 1 to 17, in the order of the variants.
 #[derive(Clone, Copy, Debug, PartialEq, Eq)]
 pub enum ErrorKind {
     /// 1: memory ran out.
     Memory,
     /// 2: the octets end too soon. A read of n octets at position p needs p + n of them.
     Incomplete {
-        /// How many octets there would have to be, from the beginning of the input.
+        /// The number of octets that are needed, from the beginning of the input.
         expected_len: Length,
-        /// How many there are, as far as they may be read now.
+        /// The number of octets that may be read now, from the beginning of the input.
         actual_len: Length,
     },
     /// 3: octets are left over after a value.
     TrailingData {
-        /// How many octets were read.
+        /// The number of octets that were read.
         decoded: Length,
-        /// How many are left.
+        /// The number of octets that are left.
         remaining: Length,
     },
-    /// 4: another tag stands there than may stand there.
+    /// 4: another tag than expected.
     TagUnexpected {
-        /// The one tag that may stand there, if there is only one.
+        /// The expected tag, if only one tag may be here.
         expected: Option<Tag>,
-        /// The tag that stands there.
+        /// The tag in the input.
         actual: Tag,
     },
-    /// 5: no tag that this layer knows.
+    /// 5: a tag that this layer does not know.
     TagUnknown {
         /// The first identifier octet.
         byte: u8,
     },
-    /// 6: a tag number in base 128 that begins with a zero digit, is below 31 or passes 4294967295.
+    /// 6: a tag number in base 128 that begins with a zero digit, is below 31 or exceeds
+    /// 4294967295.
     TagNumberInvalid,
-    /// 7: contents of a length that the type does not have.
+    /// 7: contents of a length that the type does not allow.
     Length {
         /// The type's tag.
         tag: Tag,
     },
-    /// 8: an encoding of the value that is not the one that DER asks for.
+    /// 8: an encoding of the value that is not the one that DER requires.
     Noncanonical {
         /// The type's tag.
         tag: Tag,
     },
     /// 9: a number of octets above 4294967295, or below 0.
     Overflow,
-    /// 10: length octets that are not the fewest, or say more than four octets can; more items or
-    /// octets than there is room for.
+    /// 10: length octets that are not the fewest, or encode more than four octets can; more items
+    /// or octets than fit.
     Overlength,
     /// 11: items of a set that are not in order.
     SetOrdering,
-    /// 12: octets that are no UTF-8.
+    /// 12: octets that are not UTF-8.
     Utf8,
-    /// 13: contents that stand for no value of the type.
+    /// 13: contents that encode no value of the type.
     Value {
         /// The type's tag.
         tag: Tag,
     },
-    /// 14: no date or time.
+    /// 14: an invalid date or time.
     DateTime,
-    /// 15: no object identifier.
+    /// 15: an invalid object identifier.
     OidMalformed,
     /// 16: an indefinite length.
     IndefiniteLength,
@@ -79,7 +80,7 @@ pub enum ErrorKind {
 }
 
 impl ErrorKind {
-    /// The number of the kind, 1 to 17.
+    /// Returns the number of the kind, 1 to 17.
     pub fn number(self) -> u8
         ensures { result ≡ error_number self }
     {
@@ -105,17 +106,17 @@ impl ErrorKind {
     }
 }
 
-/// A refusal, and where in the input it was made, if that is known.
+/// An error, with its position in the input if that is known.
 #[derive(Clone, Copy, Debug, PartialEq, Eq)]
 pub struct Error {
-    /// What was refused.
+    /// The kind of the error.
     pub kind: ErrorKind,
     /// The reader's position at the refusal, in octets from the beginning of the input.
     pub position: Option<Length>,
 }
 
 impl Error {
-    /// An error of this kind, with no position.
+    /// Makes an error of this kind, with no position.
     pub fn from_kind(kind: ErrorKind) -> Error
         ensures kind { result.kind ≡ kind }
         ensures position { result.position ≡ None }
@@ -126,14 +127,14 @@ impl Error {
         }
     }
 
-    /// What was refused.
+    /// Returns the kind of the error.
     pub fn kind(self) -> ErrorKind
         ensures { result ≡ self.kind }
     {
         self.kind
     }
 
-    /// The reader's position at the refusal, if that is known.
+    /// Returns the reader's position at the refusal, if that is known.
     pub fn position(self) -> Option<Length>
         ensures { result ≡ self.position }
     {
@@ -147,7 +148,7 @@ impl From<AllocError> for Error {
 
     ghost from_gives = { λ _ e. e ≡ out_of_memory };
 
-    /// `ErrorKind::Memory` (1), with no position.
+    /// Makes `ErrorKind::Memory` (1), with no position.
     fn from(_refused: AllocError) -> Error {
         Error::from_kind(ErrorKind::Memory)
     }

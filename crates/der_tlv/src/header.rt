@@ -23,7 +23,7 @@ pub use laws::{headers_are_unique, headers_read_back};
 
 /// The header of an encoding: its tag, and the length of its contents in octets.
 ///
-/// A header of an INTEGER with one contents octet is 02 01.
+/// The header of an INTEGER with one contents octet is 02 01.
 #[derive(Clone, Copy, Debug, PartialEq, Eq)]
 pub struct Header {
     /// The tag.
@@ -33,7 +33,7 @@ pub struct Header {
 }
 
 impl Header {
-    /// A header with this tag and this number of contents octets.
+    /// Makes a header with this tag and this number of contents octets.
     pub const fn new(tag: Tag, length: Length) -> Header
         ensures tag { result.tag ≡ tag }
         ensures length { result.length ≡ length }
@@ -41,21 +41,21 @@ impl Header {
         Header { tag, length }
     }
 
-    /// The tag.
+    /// Returns the tag.
     pub const fn tag(self) -> Tag
         ensures { result ≡ self.tag }
     {
         self.tag
     }
 
-    /// The number of contents octets.
+    /// Returns the number of contents octets.
     pub const fn length(self) -> Length
         ensures { result ≡ self.length }
     {
         self.length
     }
 
-    /// The header with another length.
+    /// Returns the header with another length.
     pub const fn with_length(self, length: Length) -> Header
         ensures tag { result.tag ≡ self.tag }
         ensures length { result.length ≡ length }
@@ -66,7 +66,7 @@ impl Header {
         }
     }
 
-    /// How many octets the header has, at most 11.
+    /// Returns the number of octets of the header, at most 11.
     #[inline]
     pub fn encoded_len(self) -> Length
         ensures len { result ≡ length (header_octets self.tag self.length) }
@@ -82,7 +82,7 @@ impl Header {
     /// Writes the identifier octets and the length octets.
     ///
     /// # Errors
-    /// The writer's.
+    /// The errors of the writer.
     #[inline(always)]
     pub fn encode<W: Writer>(self, writer: &mut W) -> Result<(), Error>
         ensures { Writes (header_octets self.tag self.length) (W.state writer.old)
@@ -111,8 +111,8 @@ impl Header {
     /// Reads a header.
     ///
     /// # Errors
-    /// `ErrorKind::Failed` (17) on a failed reader; the first fault of the identifier octets, then
-    /// of the length octets.
+    /// `ErrorKind::Failed` (17) on a failed reader; the first error of the identifier octets,
+    /// then of the length octets.
     #[inline(always)]
     pub fn decode<'a, R: Source<'a>>(reader: &mut R) -> Result<Header, Error>
         ensures head { ReadsHead read_header octets_of (R.state reader.old)
@@ -136,12 +136,13 @@ impl Header {
         Header::decode_octets(reader)
     }
 
-    /// Reads a header and the contents octets behind it, as they stand in the input.
+    /// Reads a header and the contents octets after it, and returns these as they are in the
+    /// input.
     ///
     /// # Errors
-    /// `ErrorKind::Failed` (17) on a failed reader; the first fault of the header; where fewer octets
-    /// are left than it says (`ErrorKind::Incomplete`, 2), or `ErrorKind::Overflow` (9) where the
-    /// position and their number pass the greatest length.
+    /// `ErrorKind::Failed` (17) on a failed reader; the first error of the header. If fewer
+    /// octets are left than the header says: `ErrorKind::Incomplete` (2), or
+    /// `ErrorKind::Overflow` (9) if the position plus the length exceeds the greatest length.
     #[inline(always)]
     pub fn decode_with_contents<'a, R: Source<'a>>(
         reader: &mut R,
@@ -172,7 +173,7 @@ impl Header {
         Header::octets_with_contents(reader)
     }
 
-    /// Reads a header of any form, and the contents octets behind it.
+    /// Reads a header of any form, and the contents octets after it.
     ///
     /// # Errors
     /// As `decode_with_contents`.
@@ -187,14 +188,15 @@ impl Header {
         Ok((header, contents))
     }
 
-    /// Reads a header with this tag, and limits reading to the contents octets: answers the header,
-    /// and the former end, for `Reader::unnest`.
+    /// Reads a header with this tag, limits reading to the contents octets, and returns the
+    /// header and the former end, for `Reader::unnest`.
     ///
     /// # Errors
-    /// `ErrorKind::Failed` (17) on a failed reader; the first fault of the header;
-    /// `ErrorKind::TagUnexpected` (4) with the expected tag for another, with the reader behind the
-    /// header; where fewer octets are left than the header says (`ErrorKind::Incomplete`, 2), or
-    /// `ErrorKind::Overflow` (9) where the position and their number pass the greatest length.
+    /// `ErrorKind::Failed` (17) on a failed reader; the first error of the header;
+    /// `ErrorKind::TagUnexpected` (4), with the expected tag, for another tag, with the reader
+    /// after the header. If fewer octets are left than the header says:
+    /// `ErrorKind::Incomplete` (2), or `ErrorKind::Overflow` (9) if the position plus the length
+    /// exceeds the greatest length.
     #[inline(always)]
     pub fn open<'a, R: Source<'a>>(reader: &mut R, tag: Tag) -> Result<(Header, Length), Error>
         ensures { Opens tag (R.state reader.old) (R.state reader.new) result }
@@ -251,7 +253,7 @@ impl Header {
     }
 
     /// Reads a header with one identifier octet and two or three length octets, as 30 81 80 and
-    /// 30 82 01 00, where such a one stands there.
+    /// 30 82 01 00, if there is one at the position.
     #[inline(always)]
     fn decode_long<'a, R: Source<'a>>(reader: &mut R) -> Option<Header>
         ensures some { IfSome result (λ h.
@@ -288,7 +290,8 @@ impl Header {
         Ok(Header { tag, length })
     }
 
-    /// The octets of the header where there are two: a number of at most 30 and a length below 128.
+    /// Returns the octets of the header if there are two, for a number of at most 30 and a length
+    /// below 128.
     #[inline(always)]
     fn two_octets(&self) -> Option<[u8; 2]>
         ensures octets { IfSome result (λ octets.
@@ -325,7 +328,7 @@ impl Header {
         writer.put(octets.as_slice());
     }
 
-    /// The octets of the header.
+    /// Returns the octets of the header.
     fn octets(&self) -> HeaderOctets
         ensures octets { result ≡ header_octets self.now.tag self.now.length }
     {
@@ -336,8 +339,8 @@ impl Header {
     }
 }
 
-/// How many length octets there are, and the length that they say, where there are two or three of
-/// them: those at the front of these three.
+/// Returns the number of length octets at the front of these three and the length that they
+/// encode, if two or three of them are length octets.
 #[inline(always)]
 fn long_length(count: u8, first: u8, last: u8) -> Option<(u32, u32)>
     ensures octets { IfSome result (λ r. take r.0 (count ∷ first ∷ last ∷ []) ≡ length_octets r.1) }

@@ -28,7 +28,7 @@ impl Model for HeaderOctets {
 }
 
 impl HeaderOctets {
-    /// No octets.
+    /// Makes an empty `HeaderOctets`.
     pub(crate) fn new() -> HeaderOctets
         ensures { result ≡ [] }
     {
@@ -38,7 +38,7 @@ impl HeaderOctets {
         }
     }
 
-    /// The octets.
+    /// Returns the octets.
     pub(crate) fn as_slice(&self) -> &[u8]
         ensures { result.now ≡ self.now }
     {
@@ -83,7 +83,7 @@ impl HeaderOctets {
         }
     }
 
-    /// Appends the length octets of 128 and more.
+    /// Appends the length octets of a length of at least 128.
     fn push_long_length(&mut self, contents_len: u32)
         requires room { length self.old ≤ 6 }
         requires long { 128 ≤ contents_len }
@@ -126,7 +126,7 @@ impl HeaderOctets {
     }
 }
 
-/// The first identifier octet of a tag.
+/// Returns the first identifier octet of a tag.
 #[inline]
 pub(crate) fn first_octet(tag: Tag) -> u8
     ensures { result ≡ first_octet (class_of tag) (is_constructed tag) (low_bits (number_of tag)) }
@@ -136,7 +136,7 @@ pub(crate) fn first_octet(tag: Tag) -> u8
     tag.class() as u8 * 64 + u8::from(tag.is_constructed()) * 32 + low
 }
 
-/// How many octets a number takes in base 256.
+/// Returns the number of octets of a number in base 256.
 #[inline]
 pub(crate) fn octet_count(number: u32) -> u8
     requires { 0 < number }

@@ -17,9 +17,9 @@ use std::marker::Model;
 
 /// A number of octets, 0 to 4294967295.
 ///
-/// Its length octets are the number itself below 128, as 05 for 5; else 80 plus the count of the
-/// octets that follow, and the number in these, high octet first, as 81 80 for 128
-/// (X.690 8.1.3, 10.1).
+/// The length octets of a length below 128 are the number itself, as 05 for 5. Those of a greater
+/// length are 80 plus the count of the octets that follow, and then the number in these, high
+/// octet first, as 81 80 for 128 (X.690 8.1.3, 10.1).
 #[derive(Clone, Copy, Debug, PartialEq, Eq, PartialOrd, Ord, Hash)]
 pub struct Length(u32);
 
@@ -45,21 +45,21 @@ impl Length {
     /// The greatest length, 4294967295.
     pub const MAX: Length = Length(u32::MAX);
 
-    /// A length of that many octets.
+    /// Makes the length of this number of octets.
     pub const fn new(value: u32) -> Length
         ensures { result ≡ value }
     {
         Length(value)
     }
 
-    /// Whether there are no octets.
+    /// Returns whether there are no octets.
     pub const fn is_zero(self) -> bool
         ensures { IsTrue result ↔ (self ≡ 0) }
     {
         self.0 == 0
     }
 
-    /// The number of octets.
+    /// Returns the number of octets.
     pub const fn value(self) -> u32
         ensures value { result ≡ self }
         ensures bounded { self < 2 ^ 32 }
@@ -67,7 +67,7 @@ impl Length {
         self.0
     }
 
-    /// A length of that many octets.
+    /// Makes the length of this number of octets.
     ///
     /// # Errors
     /// `ErrorKind::Overflow` (9) above 4294967295.
@@ -80,7 +80,7 @@ impl Length {
         }
     }
 
-    /// The sum of two lengths.
+    /// Returns the sum of two lengths.
     ///
     /// # Errors
     /// `ErrorKind::Overflow` (9) for a sum above 4294967295.
@@ -93,7 +93,7 @@ impl Length {
         }
     }
 
-    /// The difference of two lengths.
+    /// Returns the difference of two lengths.
     ///
     /// # Errors
     /// `ErrorKind::Overflow` (9) for a difference below 0.
@@ -112,9 +112,9 @@ impl Length {
     ///
     /// # Errors
     /// `ErrorKind::Failed` (17) on a failed reader. Else, in this order: no octet
-    /// (`ErrorKind::Incomplete`, 2); 80, an indefinite length (`ErrorKind::IndefiniteLength`, 16);
-    /// 85 to FF, more than four octets (`ErrorKind::Overlength`, 10); one of the octets missing
-    /// (`ErrorKind::Incomplete`, 2); a length that fewer octets could say
+    /// (`ErrorKind::Incomplete`, 2); 80, an indefinite length (`ErrorKind::IndefiniteLength`,
+    /// 16); 85 to FF, more than four octets (`ErrorKind::Overlength`, 10); a missing octet of the
+    /// length (`ErrorKind::Incomplete`, 2); a length that fits in fewer octets
     /// (`ErrorKind::Overlength`, 10).
     pub fn decode<'a, R: Source<'a>>(reader: &mut R) -> Result<Length, Error>
         ensures { ReadsHead read_length length_octets (R.state reader.old)
@@ -130,7 +130,7 @@ impl Length {
     }
 }
 
-/// Reads the octets of a length of 128 and more, of which there are `count`.
+/// Reads the `count` octets of a length of at least 128.
 fn decode_long<'a, R: Source<'a>>(reader: &mut R, count: u8) -> Result<Length, Error>
     requires some { 1 ≤ count }
     requires few { count ≤ 4 }

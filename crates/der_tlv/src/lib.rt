@@ -1,8 +1,8 @@
 //! Tags, lengths and headers of X.690 DER, and the readers and writers of their octets.
 //!
-//! Identifier octets, length octets and contents octets make an encoding, as 02 01 05 does for the
-//! INTEGER 5. This crate reads and writes the first two, and hands out the contents octets as they
-//! stand in the input.
+//! Identifier octets, length octets and contents octets make an encoding, as 02 01 05 does for
+//! the INTEGER 5. This crate reads and writes the first two, and returns the contents octets as
+//! they are in the input.
 //!
 //! ```rust
 //! let mut buffer = [0; 4];

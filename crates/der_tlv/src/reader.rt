@@ -14,37 +14,37 @@ use crate::length::Length;
 pub use slice::SliceReader;
 pub use source::{Cursor, Source};
 
-/// Reads octets from a source, which stands at a position and shows the octets up to an end. Every
-/// source has these calls.
+/// The calls that read octets from a source, which every source has. A source has a position, and
+/// shows the octets up to an end.
 ///
-/// A reader that a call has refused on is failed: from then on every call that reads, nests or
-/// unnests is refused (`ErrorKind::Failed`, 17), and `position`, `remaining_len` and `is_finished`
-/// keep their answers.
+/// A reader fails when a call refuses. After that every call that reads, nests or unnests refuses
+/// (`ErrorKind::Failed`, 17), and `position`, `remaining_len` and `is_finished` keep their
+/// results.
 pub trait Reader<'a>: Source<'a> {
     /// Reads one octet.
     ///
     /// # Errors
-    /// `ErrorKind::Failed` (17) on a failed reader; where no octet is left
-    /// (`ErrorKind::Incomplete`, 2), or `ErrorKind::Overflow` (9) where the position is the
-    /// greatest length.
+    /// `ErrorKind::Failed` (17) on a failed reader. If no octet is left:
+    /// `ErrorKind::Incomplete` (2), or `ErrorKind::Overflow` (9) if the position is the greatest
+    /// length.
     fn read_byte(&mut self) -> Result<u8, Error>
         ensures { ReadsOctet (Self.state self.old) (Self.state self.new) result };
 
-    /// Reads that many octets, as they stand in the input.
+    /// Reads `len` octets, and returns them as they are in the input.
     ///
     /// # Errors
-    /// `ErrorKind::Failed` (17) on a failed reader; where fewer octets are left
-    /// (`ErrorKind::Incomplete`, 2), or `ErrorKind::Overflow` (9) where the position and their
-    /// number pass the greatest length.
+    /// `ErrorKind::Failed` (17) on a failed reader. If fewer octets are left:
+    /// `ErrorKind::Incomplete` (2), or `ErrorKind::Overflow` (9) if the position plus `len`
+    /// exceeds the greatest length.
     fn read_slice(&mut self, len: Length) -> Result<&'a [u8], Error>
         ensures ok { IfOk result (λ octets.
             OctetsRead (Self.state self.old) (Self.state self.new) len octets.now) }
         ensures err { IfErr result
             (λ e. OctetsRefused (Self.state self.old) (Self.state self.new) len e.kind) };
 
-    /// Reads that many octets, at most eight, and answers them at the front of a block. A reader may
-    /// move eight octets of the input, which takes less time than a number of octets that is not
-    /// known before.
+    /// Reads `len` octets, at most eight, and returns them at the front of a block. A reader may
+    /// copy eight octets of the input, which takes less time than copying a number of octets that
+    /// is not known in advance.
     ///
     /// # Errors
     /// As `read_slice`.
@@ -55,7 +55,7 @@ pub trait Reader<'a>: Source<'a> {
         ensures err { IfErr result
             (λ e. OctetsRefused (Self.state self.old) (Self.state self.new) len e.kind) };
 
-    /// Reads as many octets as the buffer has, into the buffer, and answers the buffer.
+    /// Fills the buffer with the next octets, and returns the buffer.
     ///
     /// # Errors
     /// As `read_slice`.
@@ -66,45 +66,45 @@ pub trait Reader<'a>: Source<'a> {
         ensures err { IfErr result (λ e.
             OctetsRefused (Self.state self.old) (Self.state self.new) (length buffer.entry.now) e.kind) };
 
-    /// Limits reading to the next `len` octets, and answers the former end, for `unnest`.
+    /// Limits reading to the next `len` octets, and returns the former end, for `unnest`.
     ///
     /// # Errors
     /// As `read_slice`.
     fn nest(&mut self, len: Length) -> Result<Length, Error>
         ensures { Nests (Self.state self.old) (Self.state self.new) len result };
 
-    /// Puts back the end that `nest` answered.
+    /// Restores the end that `nest` returned.
     ///
     /// # Errors
-    /// `ErrorKind::Failed` (17) on a failed reader; `ErrorKind::TrailingData` (3) where octets are
-    /// left before the current end; `ErrorKind::Overflow` (9) where the end to be put back is below
-    /// it, or after the input.
+    /// `ErrorKind::Failed` (17) on a failed reader; `ErrorKind::TrailingData` (3) if octets are
+    /// left before the current end; `ErrorKind::Overflow` (9) if the end to be restored is before
+    /// the current end, or after the input.
     fn unnest(&mut self, end: Length) -> Result<(), Error>
         ensures { Unnests (Self.state self.old) (Self.state self.new) end result };
 
-    /// Goes back to a position where the reader has been.
+    /// Goes back to an earlier position.
     fn rewind(&mut self, position: Length)
         requires ready { (Self.state self.old).failed ≡ false }
         requires behind { position ≤ (Self.state self.old).position }
         ensures { Self.state self.new ≡ after_rewind (Self.state self.old) position };
 
-    /// Whether no octet is left before the end.
+    /// Returns whether no octet is left before the end.
     fn is_finished(&self) -> bool
         ensures { IsTrue result ↔ (rest (Self.state self.now) ≡ []) };
 
-    /// How many octets stand before the position.
+    /// Returns the number of octets before the position.
     fn position(&self) -> Length
         ensures { result ≡ (Self.state self.now).position };
 
-    /// How many octets are left before the end.
+    /// Returns the number of octets that are left before the end.
     fn remaining_len(&self) -> Length
         ensures { result ≡ (Self.state self.now).end - (Self.state self.now).position };
 
-    /// The rules that are followed.
+    /// Returns the rules that the reader follows.
     fn encoding_rules(&self) -> EncodingRules
         ensures { result ≡ (Self.state self.now).rules };
 
-    /// Makes the reader failed, and gives an error of this kind at its position.
+    /// Marks the reader as failed, and returns an error of this kind at its position.
     fn error(&mut self, kind: ErrorKind) -> Error
         ensures kind { result.kind ≡ kind }
         ensures position { result.position ≡ Some (Self.state self.old).position }

@@ -25,10 +25,11 @@ pub use number::TagNumber;
 
 /// A tag: a class, whether the encoding is constructed, and a number.
 ///
-/// The identifier octets of a number of at most 30 are one: the class in bits 8 and 7, the
-/// constructed bit in bit 6, the number in the others, as 30 for SEQUENCE. For a greater number
-/// those are ones, and the number follows in base 128, highest digit first, with bit 8 set in all
-/// octets but the last, as BF 1F for the constructed context-specific tag 31 (X.690 8.1.2).
+/// A tag with a number of at most 30 has one identifier octet: the class in bits 8 and 7, the
+/// constructed bit in bit 6, and the number in the other bits, as 30 for SEQUENCE. For a greater
+/// number the other bits are ones, and the number follows in base 128, highest digit first, with
+/// bit 8 set in all octets but the last, as BF 1F for the constructed context-specific tag 31
+/// (X.690 8.1.2).
 #[derive(Clone, Copy, Debug, PartialEq, Eq, Hash)]
 pub enum Tag {
     /// BOOLEAN, 01.
@@ -99,7 +100,7 @@ pub enum Tag {
 }
 
 impl Tag {
-    /// The class.
+    /// Returns the class.
     pub fn class(self) -> Class
         ensures { result ≡ class_of self }
     {
@@ -111,7 +112,7 @@ impl Tag {
         }
     }
 
-    /// Whether the encoding is constructed, so that its contents are encodings.
+    /// Returns whether the encoding is constructed, so that its contents are encodings.
     pub fn is_constructed(self) -> bool
         ensures { result ≡ is_constructed self }
     {
@@ -124,7 +125,7 @@ impl Tag {
         }
     }
 
-    /// The number within the class.
+    /// Returns the number within the class.
     pub fn number(self) -> TagNumber
         ensures value { result.0 ≡ number_of self }
         ensures bounded { IsTag self }
@@ -158,7 +159,7 @@ impl Tag {
         }
     }
 
-    /// Whether the two tags are equal: in class, constructed bit and number.
+    /// Returns whether the two tags are equal in class, constructed bit and number.
     pub fn equals(self, other: Tag) -> bool
         ensures { result ≡ same_identifier self other }
     {
@@ -168,7 +169,7 @@ impl Tag {
     /// Checks that the tag is the expected one.
     ///
     /// # Errors
-    /// `ErrorKind::TagUnexpected` (4) with the expected tag for another.
+    /// `ErrorKind::TagUnexpected` (4), with the expected tag, for another tag.
     pub fn assert_eq(self, expected: Tag) -> Result<Tag, Error>
         ensures ok { IsOk result ↔ (self ≡ expected) }
         ensures value { IfOk result (λ t. t ≡ self) }
@@ -181,8 +182,8 @@ impl Tag {
         }
     }
 
-    /// `ErrorKind::TagUnexpected` (4): this tag stands where another, or one of others, is
-    /// expected.
+    /// Makes `ErrorKind::TagUnexpected` (4): another tag, or one of several others, is expected
+    /// instead of this tag.
     pub fn unexpected_error(self, expected: Option<Tag>) -> ErrorKind
         ensures { result ≡ TagUnexpected expected self }
     {
@@ -192,21 +193,24 @@ impl Tag {
         }
     }
 
-    /// `ErrorKind::Value` (13) with this tag: the contents octets stand for no value of its type.
+    /// Makes `ErrorKind::Value` (13) with this tag: the contents octets encode no value of its
+    /// type.
     pub fn value_error(self) -> ErrorKind
         ensures { result ≡ ErrorKind.Value self }
     {
         ErrorKind::Value { tag: self }
     }
 
-    /// `ErrorKind::Length` (7) with this tag: its type has no contents octets of this number.
+    /// Makes `ErrorKind::Length` (7) with this tag: its type does not allow this number of
+    /// contents octets.
     pub fn length_error(self) -> ErrorKind
         ensures { result ≡ ErrorKind.Length self }
     {
         ErrorKind::Length { tag: self }
     }
 
-    /// `ErrorKind::Noncanonical` (8) with this tag: the contents octets are not the canonical ones.
+    /// Makes `ErrorKind::Noncanonical` (8) with this tag: the contents octets are not the
+    /// canonical ones.
     pub fn non_canonical_error(self) -> ErrorKind
         ensures { result ≡ ErrorKind.Noncanonical self }
     {

@@ -14,19 +14,19 @@ pub use vec::VecWriter;
 
 /// A sink of octets.
 ///
-/// A writer that has refused holds what it held, followed by a beginning of the octets that it
+/// After a refusal a writer holds what it held before, followed by a prefix of the octets that it
 /// refused.
 pub trait Writer {
     ghost state: { Self → WriterState };
 
-    /// Takes these octets, after those that it holds.
+    /// Writes these octets after those that it holds.
     ///
     /// # Errors
-    /// The writer's own, where there is not enough room.
+    /// The writer's own, if there is not enough space.
     fn write(&mut self, octets: &[u8]) -> Result<(), Error>
         ensures { Writes octets.now (state self.old) (state self.new) result };
 
-    /// Takes one octet.
+    /// Writes one octet.
     ///
     /// # Errors
     /// As `write`.
@@ -36,8 +36,8 @@ pub trait Writer {
         self.write(&[octet])
     }
 
-    /// Takes the first octets of a block, so many of its eight. A writer may move the whole block,
-    /// which takes less time than a number of octets that is not known before.
+    /// Writes the first `len` octets of a block of eight. A writer may copy the whole block,
+    /// which takes less time than copying a number of octets that is not known in advance.
     ///
     /// # Errors
     /// As `write`.

@@ -1,4 +1,4 @@
-//! The texts of errors, and of what they name.
+//! The texts of errors, and of the lengths and tags in them.
 
 ghost use Rattle.std.specs.Prelude.{◌≡◌};
 ghost use Rattle.der_tlv.specs.Texts.{form_text, universal_text, fixed_text};
@@ -8,7 +8,7 @@ use crate::length::Length;
 use crate::tag::{Tag, TagNumber};
 use std::fmt;
 
-/// The number of octets, in decimal.
+/// Writes the number of octets in decimal.
 impl fmt::Display for Length {
     ghost use Rattle.std.specs.Prelude.{Some};
     ghost use Rattle.std.specs.Fmt.{decimal};
@@ -21,7 +21,7 @@ impl fmt::Display for Length {
     }
 }
 
-/// The number, in decimal.
+/// Writes the number in decimal.
 impl fmt::Display for TagNumber {
     ghost use Rattle.std.specs.Prelude.{Some};
     ghost use Rattle.std.specs.Fmt.{decimal};
@@ -34,8 +34,9 @@ impl fmt::Display for TagNumber {
     }
 }
 
-/// The name that X.680 gives a universal type, as `INTEGER`; for another tag its form and what
-/// X.680 writes for its class and number, as `constructed [0]` or `primitive [APPLICATION 3]`.
+/// Writes the X.680 name of a universal type, as `INTEGER`. For another tag it writes the form,
+/// and the X.680 notation of the class and the number, as `constructed [0]` or
+/// `primitive [APPLICATION 3]`.
 impl fmt::Display for Tag {
     ghost use Rattle.std.specs.Prelude.{Some};
     ghost use Rattle.der_tlv.specs.Texts.{tag_text};
@@ -70,7 +71,7 @@ impl fmt::Display for Tag {
     }
 }
 
-/// The form of an encoding, as a word.
+/// Returns the form of an encoding, as a word.
 fn form_name(constructed: bool) -> &'static str
     ensures { result.now ≡ form_text constructed }
 {
@@ -81,7 +82,7 @@ fn form_name(constructed: bool) -> &'static str
     }
 }
 
-/// The name of a universal type (X.680 8.4, table 1); empty for another tag.
+/// Returns the name of a universal type (X.680 8.4, table 1), or an empty text for another tag.
 fn universal_name(tag: Tag) -> &'static str
     ensures { result.now ≡ universal_text tag }
 {
@@ -112,7 +113,7 @@ fn universal_name(tag: Tag) -> &'static str
     }
 }
 
-/// What was refused, as in `the octets end too soon: 5 are needed, and 3 are there`.
+/// Writes the error, as in `the octets end too soon: 5 are needed, and 3 are there`.
 impl fmt::Display for ErrorKind {
     ghost use Rattle.std.specs.Prelude.{Some};
     ghost use Rattle.der_tlv.specs.Texts.{kind_text};
@@ -150,7 +151,7 @@ impl fmt::Display for ErrorKind {
     }
 }
 
-/// The text of a kind that has no fields; empty for another kind.
+/// Returns the text of a kind that has no fields, or an empty text for another kind.
 fn fixed_text(kind: ErrorKind) -> &'static str
     ensures { result.now ≡ fixed_text kind }
 {
@@ -170,7 +171,7 @@ fn fixed_text(kind: ErrorKind) -> &'static str
     }
 }
 
-/// What was refused, and the position if it is known, as in
+/// Writes the error, and the position if it is known, as in
 /// `octets that are no UTF-8, at position 12`.
 impl fmt::Display for Error {
     ghost use Rattle.std.specs.Prelude.{Some};

@@ -1,28 +1,28 @@
-//! Laws of lengths and length octets, which stand as the contracts of functions that do little.
+//! Laws of lengths and length octets, stated as the contracts of functions that do little.
 
 ghost use Rattle.std.specs.Prelude.{◌≡◌, ◌^◌, ◌-◌};
 ghost use Rattle.der_tlv.specs.HeadLaws.{LengthsAreUnique, LengthsReadBack, LengthsAreShort};
 
 use crate::length::Length;
 
-/// No length octets are a beginning of those of another length.
+/// States that no length octets are a prefix of those of another length.
 pub fn lengths_are_unique()
     ensures { LengthsAreUnique }
 {}
 
-/// Reading the length octets of a length gives that length, whatever follows them.
+/// States that reading the length octets of a length gives that length, whatever follows them.
 pub fn lengths_read_back()
     ensures { LengthsReadBack }
 {}
 
-/// The greatest length is 4294967295.
+/// Returns the greatest length, 4294967295.
 pub fn greatest_length() -> Length
     ensures { result ≡ 2 ^ 32 - 1 }
 {
     Length::MAX
 }
 
-/// A length has one to five length octets.
+/// States that a length has one to five length octets.
 pub fn lengths_are_short()
     ensures { LengthsAreShort }
 {}

@@ -10,7 +10,7 @@ use crate::length::Length;
 use crate::reader::Reader;
 use crate::reader::source::{Cursor, Source};
 
-/// Makes the source failed, and gives an error of this kind at its position.
+/// Marks the source as failed, and returns an error of this kind at its position.
 #[cold]
 #[inline(never)]
 fn refuse<'a, S: Source<'a>>(source: &mut S, kind: ErrorKind) -> Error
@@ -29,7 +29,7 @@ fn refuse<'a, S: Source<'a>>(source: &mut S, kind: ErrorKind) -> Error
     }
 }
 
-/// Refuses a read of so many octets.
+/// Refuses to read `len` octets.
 #[cold]
 #[inline(never)]
 fn refuse_octets<'a, S: Source<'a>>(source: &mut S, len: usize) -> Error
@@ -52,7 +52,7 @@ fn refuse_octets<'a, S: Source<'a>>(source: &mut S, len: usize) -> Error
     refuse(source, kind)
 }
 
-/// Refuses to put back an end.
+/// Refuses to restore an end.
 #[cold]
 #[inline(never)]
 fn refuse_unnest<'a, S: Source<'a>>(source: &mut S) -> Error
@@ -71,7 +71,7 @@ fn refuse_unnest<'a, S: Source<'a>>(source: &mut S) -> Error
     refuse(source, ErrorKind::TrailingData { decoded, remaining })
 }
 
-/// Reads as many octets as the buffer has, into the buffer, which a refusal leaves as it was.
+/// Fills the buffer with the next octets; a refusal leaves the buffer unchanged.
 ///
 /// # Errors
 /// As `read_slice`.
@@ -92,7 +92,7 @@ fn fill<'a, S: Source<'a>>(source: &mut S, buffer: &mut [u8]) -> Result<(), Erro
     Ok(())
 }
 
-/// A block whose first octets, so many, are those that stand after `start`.
+/// Returns a block whose first `len` octets are those at offset `start`.
 #[inline(always)]
 fn block_at(bytes: &[u8], start: usize, len: usize) -> [u8; 8]
     requires few { len ≤ 8 }
@@ -134,7 +134,7 @@ impl<'a, S: Source<'a>> Reader<'a> for S {
         Ok(&octets[cursor.position as usize..position as usize])
     }
 
-    // Moves eight octets where the input has them, also after those that are read.
+    // Copies eight octets if the input has them, even octets after those that are read.
     #[inline(always)]
     fn read_front(&mut self, len: Length) -> Result<[u8; 8], Error> {
         let len = len.value();
@@ -150,7 +150,7 @@ impl<'a, S: Source<'a>> Reader<'a> for S {
         Ok(block_at(octets, cursor.position as usize, len as usize))
     }
 
-    // A refusal leaves the buffer as it was.
+    // A refusal leaves the buffer unchanged.
     fn read_into<'b>(&mut self, buffer: &'b mut [u8]) -> Result<&'b [u8], Error> {
         match fill(self, buffer) {
             Ok(()) => Ok(buffer),

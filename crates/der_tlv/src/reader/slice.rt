@@ -12,7 +12,7 @@ use crate::length::Length;
 use crate::reader::source::{Cursor, Source};
 use std::alloc::AllocError;
 
-/// A reader of octets in memory, which hands them out as they stand there.
+/// A reader of octets in memory, which it returns unchanged.
 #[derive(Debug, Drop)]
 pub struct SliceReader<'a> {
     bytes: &'a [u8],
@@ -25,7 +25,7 @@ pub struct SliceReader<'a> {
 impl<'a> SliceReader<'a> {
     ghost use Rattle.der_tlv.specs.Views.{slice_reader_state};
 
-    /// A reader of all of the octets, under DER.
+    /// Makes a reader of all the octets, under DER.
     ///
     /// # Errors
     /// `ErrorKind::Overflow` (9) for more than 4294967295 octets.
@@ -37,7 +37,7 @@ impl<'a> SliceReader<'a> {
         SliceReader::new_with_encoding_rules(bytes, EncodingRules::Der)
     }
 
-    /// A reader of all of the octets, under these rules.
+    /// Makes a reader of all the octets, under these rules.
     ///
     /// # Errors
     /// `ErrorKind::Overflow` (9) for more than 4294967295 octets.
@@ -63,11 +63,11 @@ impl<'a> SliceReader<'a> {
         })
     }
 
-    /// Ends the reading.
+    /// Ends the reading, and checks that the whole input was read.
     ///
     /// # Errors
-    /// `ErrorKind::Failed` (17) on a failed reader; `ErrorKind::TrailingData` (3) where the
-    /// position is not the end of the whole input, whatever is nested.
+    /// `ErrorKind::Failed` (17) on a failed reader; `ErrorKind::TrailingData` (3) if the position
+    /// is not the end of the whole input, whatever is nested.
     pub fn finish(self) -> Result<(), Error>
         ensures ok { IsOk result ↔ (can_finish (slice_reader_state self.entry) ≡ true) }
         ensures err { IfErr result (λ e. e.kind ≡ finish_fault (slice_reader_state self.entry)) }

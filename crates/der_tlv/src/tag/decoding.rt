@@ -19,11 +19,11 @@ impl Tag {
     ///
     /// # Errors
     /// `ErrorKind::Failed` (17) on a failed reader. Else, in this order: no octet
-    /// (`ErrorKind::Incomplete`, 2); where bits 5 to 1 of the first octet are ones, an octet of the
-    /// number missing (`ErrorKind::Incomplete`, 2), or a number that begins with the octet 80,
-    /// passes 4294967295 or is below 31 (`ErrorKind::TagNumberInvalid`, 6); an unknown universal
-    /// number (`ErrorKind::TagUnknown`, 5); a universal type with the constructed bit that it does
-    /// not have (`ErrorKind::Noncanonical`, 8).
+    /// (`ErrorKind::Incomplete`, 2); if bits 5 to 1 of the first octet are ones, a missing octet
+    /// of the number (`ErrorKind::Incomplete`, 2), or a number that begins with the octet 80,
+    /// exceeds 4294967295 or is below 31 (`ErrorKind::TagNumberInvalid`, 6); an unknown universal
+    /// number (`ErrorKind::TagUnknown`, 5); a universal type with the constructed bit that it
+    /// does not have (`ErrorKind::Noncanonical`, 8).
     #[inline]
     pub fn decode<'a, R: Source<'a>>(reader: &mut R) -> Result<Tag, Error>
         ensures head { ReadsHead read_tag identifier (R.state reader.old)
@@ -46,10 +46,10 @@ impl Tag {
         }
     }
 
-    /// Reads identifier octets, and goes back before them.
+    /// Reads identifier octets, and goes back to the position before them.
     ///
     /// # Errors
-    /// As `decode`; the reader has failed then.
+    /// As `decode`; the reader has then failed.
     #[inline(always)]
     pub fn peek<'a, R: Source<'a>>(reader: &mut R) -> Result<Tag, Error>
         ensures head { PeeksHead read_tag identifier (R.state reader.old)
@@ -66,7 +66,7 @@ impl Tag {
         Tag::peek_octets(reader)
     }
 
-    /// Reads identifier octets octet by octet, and goes back before them.
+    /// Reads identifier octets one by one, and goes back to the position before them.
     ///
     /// # Errors
     /// As `peek`.
@@ -83,11 +83,11 @@ impl Tag {
         Ok(tag)
     }
 
-    /// Whether the next tag has this class and this number; false at the end, where there is none.
-    /// The reader goes back before the tag.
+    /// Returns whether the next tag has this class and this number, or false at the end, where
+    /// there is no tag. The reader goes back to the position before the tag.
     ///
     /// # Errors
-    /// As `decode`, unless at the end; the reader has failed then.
+    /// As `decode`, except at the end; the reader has then failed.
     pub fn peek_matches<'a, R: Source<'a>>(
         reader: &mut R,
         class: Class,
@@ -105,8 +105,8 @@ impl Tag {
     }
 }
 
-/// Reads the octets of a number of more than 30: its digits in base 128, highest first, with bit 8
-/// set in all but the last.
+/// Reads the octets of a number above 30: its digits in base 128, highest first, with bit 8 set
+/// in all but the last.
 fn decode_number<'a, R: Source<'a>>(reader: &mut R) -> Result<u32, Error>
     ensures head { ReadsHead read_number number_octets (R.state reader.old)
         (R.state reader.new) result }
@@ -125,8 +125,8 @@ fn decode_number<'a, R: Source<'a>>(reader: &mut R) -> Result<u32, Error>
     }
 }
 
-/// The number with the digit of one more octet; none where it passes 4294967295, begins with a zero
-/// digit or ends below 31.
+/// Returns the number with the digit of one more octet, or none if it exceeds 4294967295, begins
+/// with a zero digit or ends below 31.
 #[inline]
 fn with_digit(number: u32, octet: u8) -> Option<u32>
     ensures { result ≡ with_digit number octet }
@@ -138,11 +138,11 @@ fn with_digit(number: u32, octet: u8) -> Option<u32>
     }
 }
 
-/// The tag of a first identifier octet and a number.
+/// Returns the tag of a first identifier octet and a number.
 ///
 /// # Errors
-/// For a universal tag that is unknown (`ErrorKind::TagUnknown`, 5), and for one with the other
-/// constructed bit (`ErrorKind::Noncanonical`, 8).
+/// `ErrorKind::TagUnknown` (5) for an unknown universal tag; `ErrorKind::Noncanonical` (8) for a
+/// universal tag with the other constructed bit.
 #[inline]
 fn tag_of_octets(first: u8, number: u32) -> Result<Tag, ErrorKind>
     ensures { result ≡ tag_of_octets first number }
@@ -176,7 +176,7 @@ fn universal(first: u8, constructed: bool, number: TagNumber) -> Result<Tag, Err
     }
 }
 
-/// The universal tag of a number.
+/// Returns the universal tag with this number.
 fn universal_tag(number: u32) -> Option<Tag>
     ensures { result ≡ universal_tag number }
 {

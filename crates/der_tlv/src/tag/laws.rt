@@ -1,4 +1,4 @@
-//! Laws of tags and identifier octets, which stand as the contracts of functions that do little.
+//! Laws of tags and identifier octets, stated as the contracts of functions that do little.
 
 ghost use Rattle.std.specs.Prelude.{◌≡◌};
 ghost use Rattle.std.specs.declared.cmp.Ordering.TheVariants.{Less};
@@ -8,40 +8,40 @@ ghost use Rattle.der_tlv.specs.TagLaws.{IdentifiersAreUnique, IdentifiersDisting
 use crate::tag::mode::TagMode;
 use std::cmp::Ordering;
 
-/// No identifier octets are a beginning of those of another tag.
+/// States that no identifier octets are a prefix of those of another tag.
 pub fn identifiers_are_unique()
     ensures { IdentifiersAreUnique }
 {}
 
-/// Tags with the same identifier octets are the same.
+/// States that tags with the same identifier octets are the same.
 pub fn identifiers_distinguish_tags()
     ensures { IdentifiersDistinguishTags }
 {}
 
-/// Reading the identifier octets of a tag gives that tag, whatever follows them.
+/// States that reading the identifier octets of a tag gives that tag, whatever follows them.
 pub fn identifiers_read_back()
     ensures { IdentifiersReadBack }
 {}
 
-/// In the lexicographic order of octets, what follows identifier octets counts only where the tags
+/// States that what follows identifier octets affects the lexicographic order only if the tags
 /// are the same.
 pub fn identifiers_decide_order()
     ensures { IdentifiersDecideOrder }
 {}
 
-/// A tag has one to six identifier octets.
+/// States that a tag has one to six identifier octets.
 pub fn identifiers_are_short()
     ensures { IdentifiersAreShort }
 {}
 
-/// Explicit tagging is less than implicit tagging.
+/// Compares explicit tagging with implicit tagging: explicit is less.
 pub fn explicit_before_implicit() -> Ordering
     ensures { result ≡ Less }
 {
     TagMode::Explicit.cmp(&TagMode::Implicit)
 }
 
-/// Tagging is explicit where nothing else is said (X.680 31.2.7).
+/// Returns the default tagging, which is explicit (X.680 31.2.7).
 pub fn default_mode() -> TagMode
     ensures { result ≡ Explicit }
 {

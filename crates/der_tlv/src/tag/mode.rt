@@ -1,6 +1,6 @@
-//! How a tag is put to a type.
+//! The ways to add a tag to a type.
 
-/// How a tag is put to a type (X.680 31.2).
+/// The way in which a tag is added to a type (X.680 31.2).
 #[derive(Clone, Copy, Debug, Default, PartialEq, Eq, PartialOrd, Ord, Hash)]
 pub enum TagMode {
     /// Around the whole encoding.

@@ -7,7 +7,7 @@ ghost use Rattle.std.specs.Prelude.{◌≡◌};
 pub struct TagNumber(pub u32);
 
 impl TagNumber {
-    /// The number.
+    /// Returns the number.
     pub const fn value(self) -> u32
         ensures { result ≡ self.0 }
     {

@@ -22,7 +22,7 @@ impl Ord for Tag {
 
     ghost matches_eq = { tag_eq-identifier };
 
-    /// The lexicographic order of the identifier octets.
+    /// Compares the identifier octets lexicographically.
     #[inline(always)]
     fn cmp(&self, other: &Tag) -> Ordering {
         match first_octet(*self).cmp(&first_octet(*other)) {
@@ -38,13 +38,13 @@ impl PartialOrd for Tag {
     ghost laws = { partial_order_from_own_ties
         (partial_order_from_total (on_total identifier nat_list_cmp_total)) tag_eq-identifier };
 
-    /// The lexicographic order of the identifier octets.
+    /// Compares the identifier octets lexicographically.
     fn partial_cmp(&self, other: &Tag) -> Option<Ordering> {
         Some(self.cmp(other))
     }
 }
 
-/// Compares the identifier octets; those of equal tags are equal, and are not made.
+/// Compares the identifier octets; those of equal tags are equal, and are not computed.
 #[inline(always)]
 fn compare_identifiers(tag: Tag, other: Tag) -> Ordering
     ensures { result ≡ lex (identifier tag) (identifier other) }
@@ -55,7 +55,7 @@ fn compare_identifiers(tag: Tag, other: Tag) -> Ordering
     compare_octets(tag, other)
 }
 
-/// Compares the identifier octets, all of them.
+/// Compares all the identifier octets.
 #[cold]
 #[inline(never)]
 fn compare_octets(tag: Tag, other: Tag) -> Ordering

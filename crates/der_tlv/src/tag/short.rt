@@ -5,9 +5,9 @@ ghost use Rattle.der_tlv.specs.ShortTags.{short_tag};
 
 use crate::tag::{Tag, TagNumber};
 
-/// The table of the tags of first identifier octets, from its entries for the universal class, and
-/// for each other class and form the numbers that stand in one octet; after these stands none,
-/// since the bits 11111 say that the number follows.
+/// Makes the table of the tags of first identifier octets, from the entries of the universal
+/// class and, for each other class and form, the numbers that fit one octet. The entry after
+/// these numbers is none, since the bits 11111 say that the number follows.
 macro_rules! table {
     ($($universal:expr),*; $($class:ident $constructed:literal $($number:literal)*;)*) => {
         [
@@ -48,7 +48,7 @@ static SHORT_TAGS: [Option<Tag>; 256] = table!(
     Private true 0 1 2 3 4 5 6 7 8 9 10 11 12 13 14 15 16 17 18 19 20 21 22 23 24 25 26 27 28 29 30;
 );
 
-/// The tag whose identifier is this octet alone, if there is one.
+/// Returns the tag whose identifier is this octet alone, if there is one.
 #[inline(always)]
 pub(crate) fn short_tag(first: u8) -> Option<Tag>
     ensures { result ≡ short_tag first }

@@ -12,26 +12,29 @@ use crate::writer::Writer;
 pub use slice::BackSlice;
 pub use vec::BackVec;
 
-/// A sink of octets that is filled from its end: what is put later stands before what it holds.
+/// A sink of octets that is filled from its end: octets that are put later are before those that
+/// it holds.
 ///
-/// A value whose length octets stand before its contents octets is written so in one pass: its contents
-/// octets first, and then its header, for which the difference of `room` says how many they are. Who
-/// puts octets has seen to it that there is room, so no call is refused for want of it.
+/// This writes a value in one pass although its length octets are before its contents octets: the
+/// contents octets are put first, and then the header, whose length is the difference of `room`.
+/// The caller makes sure that `room` is large enough, so no call of this trait refuses for lack
+/// of space.
 ///
-/// Octets that come in their order are written into a gap: `open_gap` leaves it, the writer's own calls
-/// fill it, and `close_gap` makes it a part of what is held.
+/// Octets that are written in their order go into a gap: `open_gap` leaves it, the calls of
+/// `Writer` fill it, and `close_gap` adds it to what is held.
 pub trait BackWriter: Writer {
-    /// How many octets it still takes.
+    /// Returns the number of octets that it still takes.
     fn room(&self) -> Length
         ensures { result ≡ (Self.state self.now).back.room };
 
-    /// Takes these octets, before those that it holds.
+    /// Puts these octets before those that it holds.
     fn put(&mut self, octets: &[u8])
         requires { length octets.now ≤ (Self.state self.old).back.room }
         ensures { Put octets.now (Self.state self.old) (Self.state self.new) };
 
-    /// Takes the last octets of a block, so many of its eight, before those that it holds. A writer may
-    /// move the whole block, which takes less time than a number of octets that is not known before.
+    /// Puts the last `len` octets of a block of eight before those that it holds. A writer may
+    /// copy the whole block, which takes less time than copying a number of octets that is not
+    /// known in advance.
     fn put_end(&mut self, block: [u8; 8], len: usize)
         requires few { len ≤ 8 }
         requires fits { len ≤ (Self.state self.old).back.room }
@@ -40,13 +43,14 @@ pub trait BackWriter: Writer {
         self.put(&block[8 - len..]);
     }
 
-    /// Leaves a gap of so many octets before those that it holds, for the calls that write in order.
+    /// Leaves a gap of `len` octets before those that it holds, for the calls that write in
+    /// order.
     fn open_gap(&mut self, len: Length)
         requires closed { (Self.state self.old).back.gap ≡ 0 }
         requires fits { len ≤ (Self.state self.old).back.room }
         ensures { Opened len (Self.state self.old) (Self.state self.new) };
 
-    /// Holds the octets of the gap, which is full.
+    /// Adds the octets of the gap, which is full, to those that it holds.
     fn close_gap(&mut self)
         requires { length (Self.state self.old).taken ≡ (Self.state self.old).back.gap }
         ensures { Closed (Self.state self.old) (Self.state self.new) };

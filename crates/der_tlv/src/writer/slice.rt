@@ -1,4 +1,4 @@
-//! A writer into memory that is there.
+//! A writer into a slice.
 
 ghost use Rattle.std.specs.Prelude.{◌≡◌, ◌-◌, ◌≤◌, [], ◌∷◌, length, take, false, OnOk, OnErr};
 ghost use Rattle.der_tlv.specs.Writing.{WriterState, Writes, is_overlength, refuses_first_with, room_unless_failed};
@@ -8,8 +8,8 @@ use crate::writer::Writer;
 
 /// A writer into a slice.
 ///
-/// A write that does not fit writes none of its octets and is refused (10); from then on each
-/// write is refused (`ErrorKind::Failed`, 17). A refused write leaves the whole slice as it was.
+/// A write that does not fit writes none of its octets and is refused (10); after that each write
+/// is refused (`ErrorKind::Failed`, 17). A refused write leaves the whole slice unchanged.
 #[derive(Debug, Drop)]
 pub struct SliceWriter<'a> {
     bytes: &'a mut [u8],
@@ -21,7 +21,7 @@ pub struct SliceWriter<'a> {
 impl<'a> SliceWriter<'a> {
     ghost use Rattle.der_tlv.specs.Views.{slice_writer_state, buffer_of, lender_of};
 
-    /// A writer into these octets, from the first on.
+    /// Makes a writer into these octets, from the first on.
     pub fn new(bytes: &'a mut [u8]) -> SliceWriter<'a>
         ensures taken { (slice_writer_state result).taken ≡ [] }
         ensures ready { (slice_writer_state result).failed ≡ false }
@@ -37,7 +37,7 @@ impl<'a> SliceWriter<'a> {
         }
     }
 
-    /// The octets that were written: the front of the slice.
+    /// Returns the octets that were written: the front of the slice.
     pub fn finish(self) -> &'a [u8]
         ensures taken { result.now ≡ (slice_writer_state self.entry).taken }
         ensures start { result.ref_ptr ≡ (slice_writer_state self.entry).start }

@@ -8,10 +8,10 @@ use crate::error::{Error, ErrorKind};
 use crate::writer::Writer;
 use std::alloc::Global;
 
-/// A writer into a vector, which grows as it has to.
+/// A writer into a vector, which grows as needed.
 ///
-/// A growth that is refused (1) leaves the octets as they were; from then on each write is
-/// refused (`ErrorKind::Failed`, 17).
+/// If growing is refused (1), the octets stay as they were; after that each write is refused
+/// (`ErrorKind::Failed`, 17).
 #[derive(Debug, Drop)]
 pub struct VecWriter {
     octets: Vec<u8>,
@@ -21,7 +21,7 @@ pub struct VecWriter {
 impl VecWriter {
     ghost use Rattle.der_tlv.specs.Views.{vec_writer_state};
 
-    /// A writer that holds nothing. It takes no memory yet.
+    /// Makes a writer that holds nothing, and takes no memory yet.
     pub fn new(alloc: Global) -> VecWriter
         ensures taken { (vec_writer_state result).taken ≡ [] }
         ensures ready { (vec_writer_state result).failed ≡ false }
@@ -32,10 +32,10 @@ impl VecWriter {
         }
     }
 
-    /// A writer that holds nothing and has room for so many octets.
+    /// Makes a writer that holds nothing and has space for `capacity` octets.
     ///
     /// # Errors
-    /// `ErrorKind::Memory` (1) where memory runs out.
+    /// `ErrorKind::Memory` (1) if memory runs out.
     pub fn with_capacity(alloc: Global, capacity: usize) -> Result<VecWriter, Error>
         ensures taken { IfOk result (λ w. (vec_writer_state w).taken ≡ []) }
         ensures ready { IfOk result (λ w. (vec_writer_state w).failed ≡ false) }
@@ -51,7 +51,7 @@ impl VecWriter {
         }
     }
 
-    /// Takes the first octets of a block, and no more of it.
+    /// Writes the first `len` octets of a block, and no more of it.
     ///
     /// # Errors
     /// As `write`.
@@ -67,7 +67,7 @@ impl VecWriter {
         self.write(&block[..len])
     }
 
-    /// The octets.
+    /// Returns the octets.
     pub fn finish(self) -> Vec<u8>
         ensures { result.items ≡ (vec_writer_state self).taken }
     {
@@ -111,7 +111,8 @@ impl Writer for VecWriter {
         self.write(&[octet])
     }
 
-    // Moves the whole block where there is room for it, and then gives back what is too much.
+    // Copies the whole block if it fits the capacity, and then removes the octets that are too
+    // many.
     #[inline(always)]
     fn write_front(&mut self, block: [u8; 8], len: usize) -> Result<(), Error>
         requires { len ≤ 8 }

@@ -1,12 +1,13 @@
-//! The place down to which a buffer is filled from its end, and the gap before it.
+//! The offset down to which a buffer is filled from its end, and the gap before it.
 
 ghost use Rattle.std.specs.Prelude.{◌≡◌, ◌+◌, ◌-◌, ◌≤◌, ◌<◌, ◌^◌, ◌++◌, ℕ, length, drop, false};
 ghost use Rattle.der_tlv.specs.Writing.{Writes};
 
 use crate::error::{Error, ErrorKind};
 
-/// A place in a buffer: the octets from `start` on are held. Before them `gap` octets stand open for
-/// writing in their order, of which `filled` were written; a write was refused where it has `failed`.
+/// The state of a buffer that is filled from its end: the octets from `start` on are held. The
+/// `gap` octets before them are open for writing in order, and `filled` of these were written;
+/// `failed` says whether a write was refused.
 #[derive(Debug, Drop)]
 pub struct Place {
     pub start: usize,
@@ -21,7 +22,7 @@ pub struct Place {
 impl Place {
     ghost use Rattle.der_tlv.specs.Views.{place_state};
 
-    /// The end of a buffer of so many octets.
+    /// Makes the `Place` at the end of a buffer of `len` octets.
     pub fn at_end(len: usize) -> Place
         requires { len < 2 ^ 32 }
         ensures start { result.start ≡ len }
@@ -50,8 +51,8 @@ impl Place {
         self.start = start;
     }
 
-    /// Puts the last octets of a block before those that are held: the whole block where there is
-    /// room for it, of which the octets in front are then given up.
+    /// Puts the last `len` octets of a block before those that are held: the whole block is
+    /// copied if it fits, and the octets at its front are then given up.
     #[inline(always)]
     pub fn put_end(&mut self, buffer: &mut [u8], block: [u8; 8], len: usize)
         requires few { len ≤ 8 }
@@ -71,7 +72,7 @@ impl Place {
         self.start = end - len;
     }
 
-    /// Opens a gap of so many octets before those that are held.
+    /// Opens a gap of `len` octets before those that are held.
     pub fn open_gap(&mut self, len: usize)
         requires closed { self.old.gap ≡ 0 }
         requires fits { len ≤ self.old.start }
@@ -85,7 +86,7 @@ impl Place {
         self.failed = false;
     }
 
-    /// Holds the octets of the gap too.
+    /// Adds the octets of the gap to those that are held.
     pub fn close_gap(&mut self)
         ensures start { self.new.start ≡ self.old.start - self.old.gap }
         ensures gap { self.new.gap ≡ 0 }
@@ -96,11 +97,11 @@ impl Place {
         self.start = start;
     }
 
-    /// Writes these octets into the gap, behind those that were written there.
+    /// Writes these octets into the gap, after those that were written there.
     ///
     /// # Errors
-    /// `ErrorKind::Overlength` (10) where the gap has fewer left; `ErrorKind::Failed` (17) after
-    /// that.
+    /// `ErrorKind::Overlength` (10) if the gap has fewer octets left; `ErrorKind::Failed` (17)
+    /// after that.
     pub fn write(&mut self, buffer: &mut [u8], octets: &[u8]) -> Result<(), Error>
         requires { self.old.start ≤ length buffer.old }
         ensures written { (origin : ℕ × ℕ) → Writes octets.now (place_state origin buffer.old self.old)

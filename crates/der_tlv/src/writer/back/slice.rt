@@ -1,4 +1,4 @@
-//! A writer into memory that is there, which is filled from its end.
+//! A writer into a slice that is filled from its end.
 
 ghost use Rattle.std.specs.Prelude.{◌≡◌, ◌-◌, ◌≤◌, ◌<◌, ◌^◌, ◌∷◌, [], length, take, drop};
 ghost use Rattle.der_tlv.specs.Writing.{Writes};
@@ -20,7 +20,7 @@ pub struct BackSlice<'a> {
 impl<'a> BackSlice<'a> {
     ghost use Rattle.der_tlv.specs.Views.{back_slice_state};
 
-    /// A writer into these octets, from the last on.
+    /// Makes a writer into these octets, from the last on.
     pub fn new(bytes: &'a mut [u8]) -> BackSlice<'a>
         requires { length bytes.old < 2 ^ 32 }
         ensures held { (back_slice_state result).back.held ≡ [] }
@@ -32,7 +32,7 @@ impl<'a> BackSlice<'a> {
         BackSlice { bytes, place }
     }
 
-    /// The octets, where there is no more room: the whole slice.
+    /// Returns the whole slice, which is full.
     pub fn finish(self) -> &'a [u8]
         requires full { (back_slice_state self).back.room ≡ 0 }
         requires closed { (back_slice_state self).back.gap ≡ 0 }

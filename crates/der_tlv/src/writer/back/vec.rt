@@ -11,7 +11,7 @@ use crate::length::Length;
 use crate::writer::{BackWriter, Writer};
 use std::alloc::Global;
 
-/// A writer into a vector of a length that is known, from its end.
+/// A writer into a vector of a known length, from its end.
 #[derive(Debug, Drop)]
 pub struct BackVec {
     octets: Vec<u8>,
@@ -22,10 +22,10 @@ pub struct BackVec {
 impl BackVec {
     ghost use Rattle.der_tlv.specs.Views.{back_vec_state};
 
-    /// A writer that holds nothing and takes so many octets.
+    /// Makes a writer that holds nothing and takes `len` octets.
     ///
     /// # Errors
-    /// `ErrorKind::Memory` (1) where memory runs out.
+    /// `ErrorKind::Memory` (1) if memory runs out.
     pub fn with_room(alloc: Global, len: Length) -> Result<BackVec, Error>
         ensures held { IfOk result (λ w. (back_vec_state w).back.held ≡ []) }
         ensures room { IfOk result (λ w. (back_vec_state w).back.room ≡ len) }
@@ -42,7 +42,7 @@ impl BackVec {
         }
     }
 
-    /// The octets, where there is no more room.
+    /// Returns the octets of the vector, which is full.
     pub fn finish(self) -> Vec<u8>
         requires full { (back_vec_state self).back.room ≡ 0 }
         requires closed { (back_vec_state self).back.gap ≡ 0 }
