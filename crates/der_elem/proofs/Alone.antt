@@ -14,7 +14,7 @@ use Rattle.der_elem.specs.declared.form.Form as form
 use Rattle.der_elem.specs.Accepting.{Fits, MayFollow}
 use Rattle.der_elem.specs.Decoding.{RanOut, Decoded, NotDecoded, parse_all, all_parsed, AllRead, NotAllRead}
 
--- a new reader of all of the octets
+-- a new reader of all the octets
 pub record OpenOf (octets : List ℕ) (s : ReaderState) : Type 0 where
   pub state : s ≡ new_reader octets Der
   pub fits : Fits octets
@@ -22,27 +22,27 @@ pub record OpenOf (octets : List ℕ) (s : ReaderState) : Type 0 where
 rest_of : {octets : List ℕ} {s : ReaderState} → OpenOf octets s → rest s ≡ octets
 rest_of {octets} h = ap rest h.state ∙ take-length octets
 
--- nothing may follow any octets
+-- an empty list may follow any octets
 nothing_follows : (tags : Tag → Bool) (b : List ℕ) → MayFollow tags b []
 nothing_follows tags [] = tt
 nothing_follows tags (y ∷ b) = tt
 
 module _ {T : Type 0} (F : form.Ghosts T) where
-  -- what an encoding alone is parsed as
+  -- the result of parsing an encoding alone
   pub parse_alone : (v : T) (octets : List ℕ) → Fits octets → F.accepts Der v octets → F.parse Der 0 octets ≡ Ok (length octets, F.encoding v)
   parse_alone v octets fits a =
       ap (F.parse Der 0) (sym (append-nil octets)) ∙ F.parse_of_accepted Der v 0 octets [] a fits (nothing_follows F.tags octets)
 
-  -- what the reader sees
+  -- the result of parsing that the reader sees
   parse_seen : {octets : List ℕ} {s : ReaderState} → OpenOf octets s → F.parse s.rules s.position (rest s) ≡ F.parse Der 0 octets
   parse_seen {octets} {s} h =
       ap (λ r. F.parse r s.position (rest s)) (ap (λ s. s.rules) h.state) ∙ ap (λ p. F.parse Der p (rest s)) (ap (λ s. s.position) h.state) ∙ ap (F.parse Der 0) (rest_of h)
 
-  -- what is parsed of octets that fit
+  -- the result of parsing octets whose number fits a length
   fitting : (octets : List ℕ) → Fits octets → parse_all F.parse octets ≡ all_parsed (length octets) (F.parse Der 0 octets)
   fitting octets h = let t : nat_lt (length octets) (2 ^ 32) ≡ true = grind (arith, nat_tests) in rw t refl
 
-  -- a value's octets come to its encoding
+  -- parsing all octets of a value gives its encoding
   pub all_of_accepted : (w : T) (octets : List ℕ) → F.accepts Der w octets → Fits octets → parse_all F.parse octets ≡ Ok (F.encoding w)
   all_of_accepted w octets a fits =
       let same : (length octets == length octets) ≡ true = grind (arith, nat_tests) in
@@ -67,7 +67,7 @@ module _ {T : Type 0} (F : form.Ghosts T) where
         | inr e ↦ inr (let ready : s.failed ≡ false = ap (λ s. s.failed) h.state in let there : F.parse s.rules s.position (rest s) ≡ Err kind = rw ready at e in fault_unread (fitting octets h.fits ∙ ap (all_parsed (length octets)) (sym (parse_seen h) ∙ there)))
       ]
 
-  -- what the octets come to, where a value was decoded from the first of them
+  -- the result of parsing all octets, if a value was decoded from the first of them
   parsed_first : {octets : List ℕ} {s new : ReaderState} {v : T} → OpenOf octets s → (told : Decoded F s new v) → parse_all F.parse octets ≡ all_parsed (length octets) (Ok (told.taken, F.encoding v))
   parsed_first {octets} h told = fitting octets h.fits ∙ ap (all_parsed (length octets)) (sym (parse_seen h) ∙ told.parsed)
 
@@ -90,7 +90,7 @@ module _ {T : Type 0} (F : form.Ghosts T) where
       unfinished_fault : (s : ReaderState) → s.failed ≡ false → finish_fault s ≡ TrailingData s.position (length s.input - s.position)
       unfinished_fault s ready = rw ready refl
 
-  -- all of the octets are the value's
+  -- all of the octets belong to the value
   pub all_read : {octets : List ℕ} {s new : ReaderState} {v : T} → OpenOf octets s → Decoded F s new v → can_finish new ≡ true → AllRead F octets v
   all_read {octets} {s} {new} {v} h told finished =
       let same : (new.position == length new.input) ≡ true = (and_parts (not new.failed) (new.position == length new.input) finished).1 in
@@ -100,6 +100,6 @@ module _ {T : Type 0} (F : form.Ghosts T) where
       let accepted : F.accepts Der v octets = subst (λ r. F.accepts r v octets) (ap (λ s. s.rules) h.state) (subst (F.accepts s.rules v) octets_are told.accepted) in
       record { accepted = accepted; fits = h.fits; parsed = all_of_accepted v octets accepted h.fits }
 
--- a test that would mean success, of what did not succeed
+-- a test that is true only on success is false without success
 pub unless_true : (b : Bool) → (b ≡ true → false ≡ true) → b ≡ false
 unless_true b h = false_from_ne_true b (λ e. false≢true (h e))

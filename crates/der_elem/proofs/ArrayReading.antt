@@ -14,7 +14,7 @@ use Rattle.der_elem.specs.ReadingArrays.{ItemDecoded, NoItem, ItemTooMany}
 use Rattle.der_tlv.proofs.ReaderStates.{rest-after_read}
 use Rattle.der_elem.proofs.ItemReading.{accepts_items-append, join_items-join, join_items-none}
 
--- the items that were read since the reader was `old`, of so many, and what is left
+-- the items that were read since the state of the reader was `old`, out of `count` items, and the octets that are left
 pub record ArraySoFar {T : Type 0} (F : form.Ghosts T) (count : ℕ) (old now : ReaderState) (vs : List T) : Type 0 where
   pub more : ℕ
   pub counted : length vs + more ≡ count
@@ -58,7 +58,7 @@ module _ {T : Type 0} {F : form.Ghosts T} {count : ℕ} {old now : ReaderState} 
   fault : (kind : ErrorKind) → old.failed ≡ false → parse_array so_far.more F.parse old.rules now.position (rest now) ≡ Err kind → unless_failed (parse_array count F.parse old.rules) old ≡ Err kind
   fault kind ready e = seen_array ready ∙ so_far.left ∙ ap (join_items (flat_map F.encoding vs)) e
 
-  -- an item that is missing, or its fault, is a fault of the array
+  -- a missing item, or an error in an item, is an error of the array
   pub item_fault : (kind : ErrorKind) (new : ReaderState) → length vs < count → old.failed ≡ false → NoItem F now new kind → Faults F.TAKES_MEMORY false (unless_failed (parse_array count F.parse old.rules) old) kind
   item_fault kind new h ready none = let m : ℕ = so_far.more - 1 in let e = one_more h in elim none.reason [
     | inl short ↦ inr (fault kind ready (ap (λ n. parse_array n F.parse old.rules now.position (rest now)) e ∙ ap (parse_array (suc m) F.parse old.rules now.position) short.0 ∙ parse_array-short m F.parse old.rules now.position ∙ ap Err (sym short.1)))
@@ -68,7 +68,7 @@ module _ {T : Type 0} {F : form.Ghosts T} {count : ℕ} {old now : ReaderState} 
     ]
   ]
 
-  -- so is an item too many
+  -- an item too many is an error of the array
   pub too_many_fault : (kind : ErrorKind) (new : ReaderState) → length vs ≡ count → old.failed ≡ false → ItemTooMany F now new kind → Faults F.TAKES_MEMORY false (unless_failed (parse_array count F.parse old.rules) old) kind
   too_many_fault kind new h ready over = let e = none_more h in elim over.reason [
     | inl m ↦ inl (record { kind_is = m.kind_is; takes = m.takes; faultless = λ h. absurd (cc) })
@@ -98,7 +98,7 @@ module _ {T : Type 0} {F : form.Ghosts T} {count : ℕ} {old now : ReaderState} 
             ∙ join_items-join (flat_map F.encoding vs) (F.encoding v) (parse_array m F.parse old.rules (now.position + n) (drop n (rest now))) ∙ rw (rest_new, f, encoded) refl;
       }
 
-  -- nothing is left
+  -- no octet is left
   pub array_end : length vs ≡ count → rest now ≡ [] → parse_array count F.parse old.rules old.position (rest old) ≡ Ok (flat_map F.encoding vs)
   array_end h none =
       let e = none_more h in

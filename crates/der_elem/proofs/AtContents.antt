@@ -1,4 +1,4 @@
--- A reader that has read a header, and shows the contents octets alone.
+-- A reader that has read a header, and shows only the contents octets.
 use Rattle.std.proofs.Common.{◌≡◌, ℕ, ◌+◌, ◌≤◌, ◌^◌, List, ◌++◌, length, take, drop, true, false, Result, Err, refl, sym, ap, ◌∙◌, arith, nat_lt, nat_le, ◌==◌, Some, if◌then◌else◌}
 use Rattle.std.proofs.lemmas.List.{length-take}
 use Rattle.std.proofs.Math.Seq.{take-add}
@@ -19,7 +19,7 @@ use Rattle.der_tlv.proofs.ReaderStates.{rest-after_read, length-rest, rest-after
 use Rattle.der_tlv.proofs.Refusals.{went_on, went_inside, refused_at, refused_since}
 use Rattle.der_elem.specs.Parsing.{ContentsParse, parse_tagged, parse_with_tag, parse_contents, tagged_contents}
 
--- the fault of a read of n octets at p, of a reader with this end
+-- the error of reading n octets at p, for a reader with this end
 fault_before : ℕ → ℕ → ℕ → ErrorKind
 fault_before p n end = if nat_lt (p + n) (2 ^ 32) then Incomplete (p + n) end else Overflow
 
@@ -39,19 +39,19 @@ pub record AtHeader (header : Header) (old mid : ReaderState) : Type 0 where
   pub head : HeadRead read_header (octets_of header) old mid header
   pub sound : IsReaderState mid
 
--- a sound reader before a header that stands there is one behind it, too
+-- a reader that is sound before a header is sound after it
 pub at_header : {header : Header} {old : ReaderState} → IsReaderState old → HeaderStands old header → AtHeader header old (after_header old header)
 at_header {header} {old} sound head =
     let all : length (take (length (octets_of header)) (rest old)) ≡ length (octets_of header) = ap length head.taken in
     let l = length-rest old sound in
     record { head = head; sound = record { ordered = omega (arith, length-take (length (octets_of header)) (rest old)); inside = sound.inside; short = sound.short } }
 
--- what parsing comes to after the header, of an encoding that is written with this tag
+-- the result of parsing after the header, for an encoding that is written with this tag
 abbrev pub parse_after_as : Tag → ContentsParse → EncodingRules → ReaderState → Header → Result (ℕ × List ℕ) ErrorKind
 parse_after_as t parse rules old h =
     parse_contents t parse rules (length (octets_of h)) (old.position + length (octets_of h)) h.length (drop (length (octets_of h)) (rest old))
 
--- the same of an encoding that is written with the header's tag
+-- the result of parsing after the header, for an encoding that is written with the header's tag
 abbrev pub parse_after : ContentsParse → EncodingRules → ReaderState → Header → Result (ℕ × List ℕ) ErrorKind
 parse_after parse rules old h = parse_after_as h.tag parse rules old h
 
@@ -65,7 +65,7 @@ module _ {header : Header} {old mid : ReaderState} (at : AtHeader header old mid
   pub ready_mid : mid.failed ≡ false
   ready_mid = ap (λ s. s.failed) at.head.after ∙ at.head.ready
 
-  -- what a fault leaves that is found after the header
+  -- the state after an error that is found after the header
   pub refused_after_header : {new : ReaderState} {kind : ErrorKind} → Refused mid new kind → Refused old new kind
   refused_after_header refused = refused_since at.head.ready (went_on _ at.head.after) refused
 
@@ -78,13 +78,13 @@ module _ {header : Header} {old mid : ReaderState} (at : AtHeader header old mid
   parse_own_tag t e parse rules =
       ap (parse_with_tag t parse rules old.position (rest old)) at.head.parsed ∙ rw (← e, same_identifier-same header.tag) refl
 
-  -- with another tag it is refused
+  -- an encoding with another tag is refused
   pub parse_other_tag : (t : Tag) → same_identifier header.tag t ≡ false → (parse : ContentsParse) (rules : EncodingRules) → parse_tagged t parse rules old.position (rest old) ≡ Err (TagUnexpected (Some t) header.tag)
   unfolding parse_tagged
   parse_other_tag t e parse rules =
       ap (parse_with_tag t parse rules old.position (rest old)) at.head.parsed ∙ rw e refl
 
-  -- contents octets longer than what is left
+  -- more contents octets than are left
   pub parse_too_long_as : {new : ReaderState} {kind : ErrorKind} → OctetsRefused mid new header.length kind → (t : Tag) (parse : ContentsParse) (rules : EncodingRules) → parse_after_as t parse rules old header ≡ Err kind
   parse_too_long_as {new} {kind} refused t parse rules =
       let l = length-rest mid at.sound in
@@ -125,7 +125,7 @@ module _ {header : Header} {old mid shown : ReaderState} {end : ℕ} (c : AtCont
   pub shown_ready : shown.failed ≡ false
   shown_ready = ap (λ s. s.failed) c.nest.after ∙ ready_mid c.at
 
-  -- what a refusal of the contents octets leaves
+  -- the state after a refusal of the contents octets
   pub refused_inside : {new : ReaderState} {kind : ErrorKind} → Refused shown new kind → Refused old new kind
   refused_inside refused = refused_after_header c.at (refused_since (ready_mid c.at) (went_inside _ c.nest.readable c.nest.after) refused)
 
@@ -151,7 +151,7 @@ module _ {header : Header} {old mid shown : ReaderState} {end : ℕ} (c : AtCont
   after_contents {after} {new} e f =
       f ∙ rw (e, shown_length, c.nest.after, c.nest.end_is, c.at.head.after) (ap (λ p. record old { position = p }) (let q : old.position + length (octets_of header) + header.length ≡ old.position + (length (octets_of header) + header.length) = omega arith in q))
 
-  -- the end can be put back once the contents octets are read
+  -- the end can be restored after the contents octets are read
   pub unnest_possible : {after : ReaderState} → after ≡ after_read shown (length (rest shown)) → can_unnest after end ≡ true
   unnest_possible {after} e =
       let r = room in

@@ -24,7 +24,7 @@ at f [] i x h e = absurd (omega arith)
 at f (y ∷ xs) zero x h e = ap (λ z. f z ++ flat_map f xs) e
 at f (y ∷ xs) (suc i) x h e = at f xs i x (omega arith) e
 
--- they are no more than all
+-- these octets are not more than all the octets
 some : {T : Type 0} (f : T → List ℕ) (xs : List T) (i : ℕ) → length (flat_map f (drop i xs)) ≤ length (flat_map f xs)
 some f [] zero = omega arith
 some f [] (suc i) = omega arith
@@ -35,13 +35,13 @@ module _ {T : Type 0} (f : T → List ℕ) (xs : List T) (n i : ℕ) (x : T) (ne
   behind : flat_map f (drop i xs) ≡ f x ++ flat_map f (drop n xs)
   behind = at f xs i x h e ∙ ap (λ m. f x ++ flat_map f (drop m xs)) (sym next)
 
-  -- there is room for an item
+  -- there is enough space for an item
   pub room_at : HasRoom (flat_map f xs) old → HasRoom (f x) mid
   room_at room = record {
     closed = put.gap ∙ room.closed;
     fits = let s = some f xs i in let r = put.room in omega (arith, room.fits, ap length behind, length-append (f x) (flat_map f (drop n xs)));
   }
 
-  -- and it stands before the others
+  -- the item is before the others
   pub put_at : {new : WriterState} → Put (f x) mid new → Put (flat_map f (drop i xs)) old new
   put_at {new} v = subst (λ c. Put c old new) (sym behind) (put_both put v)

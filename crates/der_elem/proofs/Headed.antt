@@ -36,7 +36,7 @@ module _ {T : Type 0} {V : ContentsFormat T} {F : form.Ghosts T} {tag_of : T →
     equal_contents e =
         sym (ap (λ o. lex o (F.encoding y)) (same_encoding (lex-equal (V.contents x) (V.contents y) (sym e))) ∙ lex-same (F.encoding y))
 
-    -- equal contents octets need no lengths
+    -- equal contents octets need no comparison of lengths
     pub equal_decides : (r : Result Ordering Error) → r ≡ Ok Equal → ComparesValues V x y r → Compares F x y r
     equal_decides r e told =
         subst (λ r. Compares F x y r) (sym e) (equal_contents (subst (λ r. ComparesValues V x y r) e told))

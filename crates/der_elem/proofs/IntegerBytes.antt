@@ -38,11 +38,11 @@ number_after_bytes : (k n high : ℕ) → number_from_digits_after 256 high (byt
 number_after_bytes zero n high = omega arith
 number_after_bytes (suc k) n high = number_after_bytes k n (high * 256 + byte_at k n) ∙ byte_on k n high
 
--- the number of the lowest k octets is the number itself, where it fits
+-- the number of the lowest k octets is the number itself, if it fits
 pub number_bytes : (k n : ℕ) → n < 256 ^ k → big_endian_number (bytes_high_first k n) ≡ n
 number_bytes k n fits = omega (arith, number_after_bytes k n 0, mod-eq_of_lt fits)
 
--- the last of them are the lowest
+-- the last octets are the lowest
 drop_bytes : (k l n : ℕ) → l ≤ k → drop (k - l) (bytes_high_first k n) ≡ bytes_high_first l n
 drop_bytes zero l n within = let none : l ≡ 0 = omega arith in rw none refl
 drop_bytes (suc k) l n within = elim (cases_lt k l) [
@@ -50,7 +50,7 @@ drop_bytes (suc k) l n within = elim (cases_lt k l) [
   | inr below ↦ let one : suc k - l ≡ suc (k - l) = omega arith in rw one (drop_bytes k l n below)
 ]
 
--- the octets of the greatest number less a number are the octets of that number, inverted
+-- the octets of the greatest number minus n are the octets of n, inverted
 bytes_complemented : (k m n : ℕ) → m + n + 1 ≡ 256 ^ k → bytes_high_first k m ≡ complement_octets (bytes_high_first k n)
 bytes_complemented k m n both =
     let octets = bytes_high_first k n in
@@ -68,12 +68,12 @@ last_natural k n within =
     ∙ octets-same_number (bytes_high_first l n) (natural_contents n) (bytes_are_octets l n) (natural_contents-are_octets n) (length_bytes l n)
     (number_bytes l n (subst (λ m. m < 256 ^ l) (number_natural_contents n) (number_lt 256 (natural_contents n) (natural_contents-are_octets n))) ∙ sym (number_natural_contents n))
 
--- the number is what octets of a width represent an integer by: the integer itself, or that and 256 to the width
+-- the number by which octets of a width represent an integer: the integer itself, or the integer plus 256 to the width
 abbrev Represents : ℕ → ℕ → ℤ → Type 0
 Represents k number (pos n) = number ≡ n
 Represents k number (negsuc n) = number + n + 1 ≡ 256 ^ k
 
--- octets are the last of others if the same octets are
+-- octets that are equal to the last octets of others are the last octets of the others
 last_of : (k : ℕ) (octets c d : List ℕ) → c ≡ d → drop (k - length d) octets ≡ d → drop (k - length c) octets ≡ c
 last_of k octets c d same last = subst (λ x. drop (k - length x) octets ≡ x) (sym same) last
 
@@ -107,11 +107,11 @@ represents_cast_16 : (z : ℤ) → SFits w128 z → Represents 16 (cast_unsigned
 represents_cast_16 (pos n) fits = omega (arith, fits.sfits)
 represents_cast_16 (negsuc n) fits = omega (arith, fits.sfits)
 
--- a number that fits has a zero in front of its 16 octets
+-- a number that fits has an octet 00 in front of its 16 octets
 pub zero_front : (n : ℕ) → n < 2 ^ 128 → 0 ∷ bytes_high_first 16 n ≡ bytes_high_first 17 n
 zero_front n fits = let none : n / 256 ^ 16 % 256 ≡ 0 = omega arith in ap (λ octet. octet ∷ bytes_high_first 16 n) (sym none)
 
--- the slice that a number's octets end with, which represents an integer
+-- the slice at the end of the octets of a number that represents an integer
 represented_slice : (k : ℕ) (z : ℤ) (len number : ℕ) (octets : List ℕ) → Represents k number z → octets ≡ bytes_high_first k number → len ≡ length (integer_contents z) → len ≤ k → take (k - (k - len)) (drop (k - len) octets) ≡ integer_contents z
 represented_slice k z len number octets represents all count within =
     ap (λ o. take (k - (k - len)) (drop (k - len) o)) all
@@ -126,19 +126,19 @@ pub short_length : (z : ℤ) → SFits w64 z → length (integer_contents z) ≤
 short_length (pos n) fits = integer_contents-length_le_width 8 (pos n) (omega arith) (omega (arith, fits.sfits))
 short_length (negsuc n) fits = integer_contents-length_le_width 8 (negsuc n) (omega arith) (omega (arith, fits.sfits))
 
--- the last octets of what represents an integer of 64 bits are its contents octets
+-- the last octets of the number that represents an integer of 64 bits are its contents octets
 pub short_last : (z : ℤ) (len number : ℕ) (block : List ℕ) → SFits w64 z → number ≡ cast_unsigned w64 z → block ≡ bytes_high_first 8 number → len ≡ length (integer_contents z) → drop (8 - len) block ≡ integer_contents z
 short_last z len number block fits cast octets count =
     ap (λ b. drop (8 - len) b) octets ∙ ap (λ l. drop (8 - l) (bytes_high_first 8 number)) count
     ∙ last_octets 8 number z (subst (λ n. Represents 8 n z) (sym cast) (represents_cast_8 z fits)) (short_length z fits)
 
--- and one that is not negative, with an octet 00 in front
+-- the slice that a number that is not negative is written from, with an octet 00 in front
 pub unsigned_slice : (n len : ℕ) (octets : List ℕ) → octets ≡ bytes_high_first 17 n → len ≡ length (natural_contents n) → len ≤ 17 → take (17 - (17 - len)) (drop (17 - len) octets) ≡ natural_contents n
 unsigned_slice n len octets all count within =
     ap (λ o. take (17 - (17 - len)) (drop (17 - len) o)) all
     ∙ slice_of_last 17 len (bytes_high_first 17 n) (natural_contents n) count within (last_natural 17 n (omega (arith, count, within)))
 
--- and of 128 bits
+-- the length of an integer of 128 bits
 pub wide_length : (z : ℤ) → SFits w128 z → length (integer_contents z) ≤ 16
 wide_length (pos n) fits = integer_contents-length_le_width 16 (pos n) (omega arith) (omega (arith, fits.sfits))
 wide_length (negsuc n) fits = integer_contents-length_le_width 16 (negsuc n) (omega arith) (omega (arith, fits.sfits))
@@ -149,7 +149,7 @@ pub pow_octets : (j : ℕ) → 2 ^ (8 * j) ≡ 256 ^ j
 pow_octets zero = refl
 pow_octets (suc j) = ap (λ e. 2 ^ e) (omega arith) ∙ pow-add 2 8 (8 * j) ∙ omega (arith, pow_octets j, pow-suc 256 j)
 
--- a number that is moved up has the lowest of its octets left
+-- a number that is shifted up keeps the lowest of its octets
 moved_up : (number k l : ℕ) → l ≤ k → (number * 256 ^ (k - l)) % 256 ^ k ≡ (number % 256 ^ l) * 256 ^ (k - l)
 moved_up number k l within =
     let unit = 256 ^ (k - l) in
@@ -159,7 +159,7 @@ moved_up number k l within =
     ap (λ m. (number * unit) % m) (sym whole) ∙ mod-mul (number * unit) {m = 256 ^ l} {c = unit} low some
     ∙ ap₂ (λ a b. a % 256 ^ l * unit + b) (mul-div_cancel number some) (mul-mod_left number unit) ∙ omega arith
 
--- what represents an integer, moved up, is its contents octets with zeros after them
+-- the number that represents an integer, shifted up, is that of its contents octets with zeros after them
 aligned_at : (k number : ℕ) (z : ℤ) (len : ℕ) → Represents k number z → len ≡ length (integer_contents z) → len ≤ k → (number * 2 ^ (8 * (k - len))) % 256 ^ k ≡ left_aligned k (integer_contents z)
 aligned_at k number z len represents count within =
     let contents = integer_contents z in
@@ -171,17 +171,17 @@ aligned_at k number z len represents count within =
     ∙ moved_up number k (length contents) few
     ∙ ap (λ n. n * 256 ^ (k - length contents)) value
 
--- the same at 16 octets
+-- at 16 octets, that number is that of the contents octets with zeros after them
 pub aligned_number : (z : ℤ) (len number : ℕ) → SFits w128 z → number ≡ cast_unsigned w128 z → len ≡ length (integer_contents z) → len ≤ 16 → (number * 2 ^ (8 * (16 - len))) % 2 ^ 128 ≡ left_aligned 16 (integer_contents z)
 aligned_number z len number fits cast = aligned_at 16 number z len (subst (λ n. Represents 16 n z) (sym cast) (represents_cast_16 z fits))
 
--- ---- the octets of a number that zeros stand after
+-- ---- the octets of a number with zeros after them
 
 byte_is : (i n : ℕ) → byte_at i n ≡ n / 256 ^ i % 256
 byte_is zero n = omega arith
 byte_is (suc i) n = refl
 
--- an octet of a number that is moved up is one of the number
+-- an octet of a number that is shifted up is an octet of the number
 byte_moved : (k l n : ℕ) → l ≤ k → byte_at k (n * 256 ^ (k - l)) ≡ byte_at l n
 byte_moved k l n within =
     let unit = 256 ^ (k - l) in
@@ -192,7 +192,7 @@ byte_moved k l n within =
     ∙ ap (λ q. q % 256) (mul-div-mul_right {m = unit} n (256 ^ l) some)
     ∙ sym (byte_is l n)
 
--- the first octets of a number that is moved up are those of the number
+-- the first octets of a number that is shifted up are those of the number
 front_bytes : (k l n : ℕ) → l ≤ k → take l (bytes_high_first k (n * 256 ^ (k - l))) ≡ bytes_high_first l n
 front_bytes k zero n within = refl
 front_bytes zero (suc l) n within = absurd (omega (arith, within))
@@ -202,7 +202,7 @@ front_bytes (suc k) (suc l) n within =
     ap (λ e. take (suc l) (bytes_high_first (suc k) (n * 256 ^ e))) same
     ∙ ap₂ (λ octet octets. octet ∷ octets) (byte_moved k l n lower) (front_bytes k l n lower)
 
--- the first octets of what represents an integer of 64 bits, moved up, are its contents octets
+-- the first octets of the number that represents an integer of 64 bits, shifted up, are its contents octets
 pub short_front : (z : ℤ) (len number front : ℕ) (block : List ℕ) → SFits w64 z → number ≡ cast_unsigned w64 z → front ≡ (number * 2 ^ (8 * (8 - len))) % 2 ^ 64 → block ≡ bytes_high_first 8 front → len ≡ length (integer_contents z) → len ≤ 8 → take len block ≡ integer_contents z
 short_front z len number front block fits cast moved octets count within =
     let contents = integer_contents z in

@@ -14,7 +14,7 @@ use Rattle.der_elem.proofs.IntegerBytes.{number_bytes, pow_octets}
 
 -- ---- the number of the octets
 
--- as many octets, inverted or not
+-- inverting octets does not change how many there are
 pub length_complemented_if : (negative : Bool) (octets : List ℕ) → length (complement_octets_if negative octets) ≡ length octets
 length_complemented_if true octets = length-complement_octets octets
 length_complemented_if false octets = refl
@@ -25,12 +25,12 @@ get_or-complement_octets [] i within = absurd (omega arith)
 get_or-complement_octets (octet ∷ octets) zero within = refl
 get_or-complement_octets (octet ∷ octets) (suc i) within = get_or-complement_octets octets i (omega arith)
 
--- the same with the flag
+-- an octet of the inverse is the inverse of the octet, if the flag is set
 get_or-complement_octets_if : (negative : Bool) (octets : List ℕ) (i : ℕ) → i < length octets → get_or (complement_octets_if negative octets) i 0 ≡ cond negative (255 - get_or octets i 0) (get_or octets i 0)
 get_or-complement_octets_if true octets i within = get_or-complement_octets octets i within
 get_or-complement_octets_if false octets i within = refl
 
--- the number of the octets up to one more
+-- the number that the octets write, with one more octet
 pub magnitude_more : (negative : Bool) (octets : List ℕ) (i n digit : ℕ) → i < length octets → n ≡ big_endian_number (take i (complement_octets_if negative octets)) → digit ≡ cond negative (255 - get_or octets i 0) (get_or octets i 0) → n * 256 + digit ≡ big_endian_number (take (i + 1) (complement_octets_if negative octets))
 magnitude_more negative octets i n digit within number read =
     omega (arith, number_more 256 (complement_octets_if negative octets) i (omega (arith, length_complemented_if negative octets)), get_or-complement_octets_if negative octets i within)
@@ -40,7 +40,7 @@ number_take-le : (octets : List ℕ) (i : ℕ) → big_endian_number (take i oct
 number_take-le octets i =
     omega (arith, ap big_endian_number (take-append-drop i octets), number_after_append 256 0 (take i octets) (drop i octets), number_after_ge 256 (big_endian_number (take i octets)) (drop i octets) (omega arith))
 
--- and it is at most the number of all of them
+-- that number is at most the number of all the octets
 pub magnitude_more_le : (negative : Bool) (octets : List ℕ) (i n digit : ℕ) → i < length octets → n ≡ big_endian_number (take i (complement_octets_if negative octets)) → digit ≡ cond negative (255 - get_or octets i 0) (get_or octets i 0) → n * 256 + digit ≤ big_endian_number (complement_octets_if negative octets)
 magnitude_more_le negative octets i n digit within number read =
     omega (arith, magnitude_more negative octets i n digit within number read, number_take-le (complement_octets_if negative octets) (i + 1))
@@ -52,7 +52,7 @@ pub are_octets : (octets : List ℕ) → ((i : ℕ) → get_or octets i 0 < 256)
 are_octets [] each = tt
 are_octets (octet ∷ octets) each = (each 0, are_octets octets (λ i. each (suc i)))
 
--- and the first of them
+-- the first of them are octets too
 pub take-are_octets : (i : ℕ) (octets : List ℕ) → AreOctets octets → AreOctets (take i octets)
 take-are_octets zero octets each = tt
 take-are_octets (suc i) [] each = tt
@@ -88,7 +88,7 @@ number_after_number n (octet ∷ octets) =
     let power : n * 256 ^ length (octet ∷ octets) ≡ n * (256 ^ length octets * 256) = ap (λ p. n * p) (pow-suc 256 (length octets)) in
     omega (arith, step, low, power)
 
--- the first octets are those of the quotient by what the others are worth
+-- the big-endian number of the first octets is the quotient by 256 to the count of the others
 number_of_front : (k l : ℕ) (octets : List ℕ) → AreOctets octets → length octets ≡ k → l ≤ k → big_endian_number (take l octets) ≡ big_endian_number octets / 256 ^ (k - l)
 number_of_front k l octets all count within =
     let others = drop l octets in

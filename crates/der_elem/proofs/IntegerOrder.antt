@@ -1,4 +1,4 @@
--- The order of contents octets as that of numbers: of the octets with zeros after them, and then of how many there are.
+-- The order of contents octets as that of numbers: of the octets with zeros after them, and then of their count.
 use Rattle.std.proofs.Common.{◌≡◌, ℕ, zero, suc, ◌+◌, ◌-◌, ◌*◌, ◌<◌, ◌≤◌, ◌^◌, ◌/◌, ◌%◌, ◌++◌, inl, inr, List, [], ◌∷◌, length, length-append, refl, sym, ap, ap₂, ◌∙◌, arith, mul-le-mul_right, Ordering, ℤ, pos, SFits}
 use Rattle.std.proofs.Math.Nat.{add-mul, mul_assoc, mul-lt-mul_of_pos_right, one-le-pow}
 use Rattle.std.proofs.lemmas.Bool.{cases_lt}
@@ -49,7 +49,7 @@ digit_first p a b x y left right = elim (cases_lt a b) [
 suc_cmp : (m n : ℕ) → nat_cmp m n ≡ nat_cmp (suc m) (suc n)
 suc_cmp m n = grind (arith, nat_tests)
 
--- the order of octets is that of these numbers, and then of how many there are
+-- the order of octets is that of these numbers, and then that of their counts
 pub lex-left_aligned : (k : ℕ) (cs ds : List ℕ) → AreOctets cs → AreOctets ds → length cs ≤ k → length ds ≤ k → lex cs ds ≡ ordering_then (nat_cmp (left_aligned k cs) (left_aligned k ds)) (nat_cmp (length cs) (length ds))
 lex-left_aligned k [] [] all_c all_d c d = grind (arith, nat_tests)
 lex-left_aligned k [] (y ∷ ds) all_c all_d c d = grind (arith, nat_tests)
@@ -77,17 +77,17 @@ module _ (y z : ℤ) (fits_y : SFits w128 y) (fits_z : SFits w128 z) where
   told : lex (integer_contents y) (integer_contents z) ≡ ordering_then (nat_cmp (left_aligned 16 (integer_contents y)) (left_aligned 16 (integer_contents z))) (nat_cmp (length (integer_contents y)) (length (integer_contents z)))
   told = lex-left_aligned 16 (integer_contents y) (integer_contents z) (integer_contents-are_octets y) (integer_contents-are_octets z) (wide_length y fits_y) (wide_length z fits_z)
 
-  -- where the numbers are equal, the number of octets decides
+  -- if the numbers are equal, the number of octets decides
   pub integers_tied : nat_cmp (left_aligned 16 (integer_contents y)) (left_aligned 16 (integer_contents z)) ≡ Equal → nat_cmp (length (integer_contents y)) (length (integer_contents z)) ≡ lex (integer_contents y) (integer_contents z)
   integers_tied e = sym (told ∙ of_equal (nat_cmp (left_aligned 16 (integer_contents y)) (left_aligned 16 (integer_contents z))) _ e)
 
-  -- and else the numbers do
+  -- if the numbers are not equal, they decide
   pub integers_decided : (nat_cmp (left_aligned 16 (integer_contents y)) (left_aligned 16 (integer_contents z)) ≡ Equal → ⊥) → nat_cmp (left_aligned 16 (integer_contents y)) (left_aligned 16 (integer_contents z)) ≡ lex (integer_contents y) (integer_contents z)
   integers_decided other = sym (told ∙ of_other (nat_cmp (left_aligned 16 (integer_contents y)) (left_aligned 16 (integer_contents z))) _ other)
 
 -- ---- numbers of 128 bits that are not negative
 
--- one more octet after octets that are as many as others, or more
+-- one more octet after octets that are at least as many as others
 lex-after : (cs ds : List ℕ) (last : ℕ) → length ds ≤ length cs → lex (cs ++ last ∷ []) ds ≡ ordering_then (lex cs ds) Greater
 lex-after [] [] last within = refl
 lex-after [] (y ∷ ds) last within = absurd (omega arith)
@@ -102,7 +102,7 @@ lex-before [] (y ∷ ds) last within = refl
 lex-before (x ∷ cs) (y ∷ ds) last within =
     ap (ordering_then (nat_cmp x y)) (lex-before cs ds last (omega arith)) ∙ then_assoc (nat_cmp x y) (lex cs ds) Less
 
--- a number of 128 bits that does not fit in 127 has 17 contents octets, the first 16 those of its quotient by 256
+-- a number of 128 bits that does not fit in 127 bits has 17 contents octets, and the first 16 are those of its quotient by 256
 long_length : (n : ℕ) → 2 ^ 127 ≤ n → n < 2 ^ 128 → length (natural_contents n) ≡ 17
 long_length n large fits = natural_contents-length n 16 (omega (arith, fits)) (λ less e. let l : less ≡ 15 = omega (arith, e) in rw l (omega (arith, large)))
 
@@ -136,7 +136,7 @@ both_long m n large_m fits_m large_n fits_n =
 pub natural_of : (z : ℤ) (n : ℕ) → z ≡ pos n → integer_contents z ≡ natural_contents n
 natural_of z n e = ap integer_contents e ∙ integer_contents-pos n
 
--- a number below 2^127 is in the range of 128 bits with a sign, and so is the quotient of any number of 128 bits by 256
+-- a number below 2^127 is in the range of signed 128 bits, and so is the quotient of any number of 128 bits by 256
 pub half_fits : (n : ℕ) → n < 2 ^ 127 → SFits w128 (pos n)
 half_fits n fits = record { sfits = omega (arith, fits) }
 

@@ -7,7 +7,7 @@ use Rattle.der_elem.specs.Integer.{natural_contents, integer_contents, FitsSigne
 use Rattle.der_elem.specs.IntegerReading.{ReadsSigned, ReadsUnsigned, parse_signed, parse_unsigned}
 use Rattle.der_elem.specs.IntegerReadingLaws.{parse_signed-own, parse_unsigned-own}
 
--- one that the octets of a reader are read as was decoded from them
+-- an integer that the octets of a reader are read as was decoded from them
 pub signed_decoded : (width : ℕ) (some : 0 < width) (old new : ReaderState) (octets : List ℕ) (integer : ℤ) → ContentsRead old new octets → ReadsSigned width octets (Ok integer) → OwnDecoded integer_contents (FitsSignedWidth width) (parse_signed width) old new integer
 signed_decoded width some old new octets integer read reads =
     let own = sym read.all ∙ reads.0 in
@@ -19,7 +19,7 @@ signed_decoded width some old new octets integer read reads =
       after = read.after;
     }
 
--- the same of a number that is not negative
+-- a number that the octets of a reader are read as was decoded from them
 pub unsigned_decoded : (width : ℕ) (old new : ReaderState) (octets : List ℕ) (number : ℕ) → ContentsRead old new octets → ReadsUnsigned width octets (Ok number) → OwnDecoded natural_contents (FitsUnsignedWidth width) (parse_unsigned width) old new number
 unsigned_decoded width old new octets number read reads =
     let own = sym read.all ∙ reads.0 in

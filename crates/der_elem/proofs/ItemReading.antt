@@ -10,7 +10,7 @@ use Rattle.der_elem.specs.Decoding.{Faults, Decoded}
 use Rattle.der_elem.specs.Items.{AcceptsItems, join_items, then_items, parse_items}
 use Rattle.der_elem.specs.ItemLaws.{parse_items-end, parse_items-step, parse_items-more}
 
--- the items that were read since the reader was `old`, and what is left
+-- the items that were read since the state of the reader was `old`, and the octets that are left
 pub record ItemsSoFar {T : Type 0} (F : form.Ghosts T) (old now : ReaderState) (vs : List T) : Type 0 where
   pub taken : ℕ
   pub after : now ≡ after_read old taken
@@ -52,7 +52,7 @@ module _ {T : Type 0} {F : form.Ghosts T} {old now : ReaderState} {vs : List T} 
   rest_now : rest now ≡ drop so_far.taken (rest old)
   rest_now = ap rest so_far.after ∙ rest-after_read old so_far.taken
 
-  -- a fault of the next item is one of the list
+  -- an error in the next item is an error of the list
   pub items_fault : old.failed ≡ false → 0 < length (rest now) → (memory first : Bool) (kind : ErrorKind) → Faults memory first (unless_failed (F.parse now.rules) now) kind → Faults true false (unless_failed (parse_items F.parse old.rules) old) kind
   items_fault ready some memory first kind faults =
       let seen_items : unless_failed (parse_items F.parse old.rules) old ≡ parse_items F.parse old.rules old.position (rest old) = rw ready refl in
@@ -89,14 +89,14 @@ module _ {T : Type 0} {F : form.Ghosts T} {old now : ReaderState} {vs : List T} 
       let long = nonempty v (take n (rest now)) told.accepted in
       omega (arith, length-take n (rest now), ap (λ s. length (rest s)) told.after, ap length (rest-after_read now n), length-drop n (rest now))
 
-  -- nothing is left
+  -- no octet is left
   pub items_end : old.failed ≡ false → rest now ≡ [] → parse_items F.parse old.rules old.position (rest old) ≡ Ok (flat_map F.encoding vs)
   items_end ready none = so_far.left ∙ ap (λ c. join_items (flat_map F.encoding vs) (parse_items F.parse old.rules now.position c)) none ∙ ap (join_items (flat_map F.encoding vs)) (parse_items-end F.parse old.rules now.position) ∙ ap Ok (append-nil (flat_map F.encoding vs))
 
   pub items_accepted : so_far.taken ≡ length (rest old) → AcceptsItems (F.accepts old.rules) vs (rest old)
   items_accepted e = subst (AcceptsItems (F.accepts old.rules) vs) (ap (λ n. take n (rest old)) e ∙ take-length (rest old)) so_far.accepted
 
--- where nothing is left, all of the octets were taken
+-- if no octet is left, all the octets were taken
 pub all_taken : (old now : ReaderState) (n : ℕ) → IsReaderState old → IsReaderState now → now ≡ after_read old n → rest now ≡ [] → n ≡ length (rest old)
 all_taken old now n sound sound' after none =
     let l = length-rest old sound in

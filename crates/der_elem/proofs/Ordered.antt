@@ -17,7 +17,7 @@ use Rattle.der_elem.proofs.ItemWriting.{length_at, re_reads_at}
 pub item_first : {T : Type 0} (xs : List T) (i : ℕ) (x : T) → i < length xs → get_or xs i x ≡ x → drop i xs ≡ x ∷ drop (i + 1) xs
 item_first xs i x h e = rw (add-one) (drop-cons xs i x h ∙ ap (λ y. y ∷ drop (suc i) xs) e)
 
--- the pair at a place, and then the pairs after it
+-- the pair at an index, and then the pairs after it
 pub cmp_at : {T : Type 0} (R : T → T → Ordering) (vs ws : List T) (i : ℕ) (v w : T) → i < length vs → i < length ws → get_or vs i v ≡ v → get_or ws i w ≡ w → slice_cmp R (drop i vs) (drop i ws) ≡ ordering_then (R v w) (slice_cmp R (drop (i + 1) vs) (drop (i + 1) ws))
 cmp_at R vs ws i v w h k e f = rw (item_first vs i v h e, item_first ws i w k f) refl
 
@@ -44,7 +44,7 @@ comparable_at comparable (x ∷ vs) [] i v w h k e f o = absurd (omega arith)
 comparable_at comparable (x ∷ vs) (y ∷ ws) zero v w h k e f (o, os) = subst (λ x. comparable x w) e (subst (λ y. comparable x y) f o)
 comparable_at comparable (x ∷ vs) (y ∷ ws) (suc i) v w h k e f (o, os) = comparable_at comparable vs ws i v w (omega arith) (omega arith) e f os
 
--- where two items have no comparison, their lists have none
+-- if two items have no comparison, their lists have none
 module _ {T : Type 0} (F : form.Ghosts T) (vs ws : List T) (i : ℕ) (v w : T) (h : i < length vs) (k : i < length ws) (e : get_or vs i v ≡ v) (f : get_or ws i w ≡ w) where
   pub incomparable_item : (kind : ErrorKind) → Incomparable F v w kind → IncomparableItems F vs ws kind
   incomparable_item Overflow why = elim why [

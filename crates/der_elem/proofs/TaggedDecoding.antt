@@ -1,4 +1,4 @@
--- Decoding an encoding with one tag: its faults, and its value.
+-- Decoding an encoding with one tag: its errors, and its value.
 use Rattle.std.proofs.Common.{◌≡◌, ℕ, ◌+◌, List, length, take, Bool, true, false, Result, Ok, Err, Some, refl, sym, ap, ◌∙◌, subst, ◌⊎◌, inl, inr}
 use Rattle.std.specs.Prelude.{IsOk}
 use Rattle.der_tlv.specs.declared.error.ErrorKind.{ErrorKind}
@@ -20,7 +20,7 @@ use Rattle.der_elem.specs.Decoding.{Faults, OtherHeader, ValueDecoded, ValueNotD
 use Rattle.der_elem.proofs.OtherTags.{end_without_header, end_at_header, no_other_tag}
 use Rattle.der_elem.proofs.AtContents.{AtHeader, AtContents, at_header, refused_at_header, refused_after_header, parse_own_tag, parse_other_tag, parse_too_long, shown_ready, shown_rules, parse_shown, taken}
 
--- the header's fault is that of the whole encoding
+-- the header's error is that of the whole encoding
 pub header_fault : {old new : ReaderState} {kind : ErrorKind} → HeadFault read_header old new kind → (t : Tag) (parse : ContentsParse) (rules : EncodingRules) → unless_failed (parse_tagged t parse rules) old ≡ Err kind
 unfolding parse_tagged
 header_fault {old} {new} {kind} fault t parse rules = at old.failed refl
@@ -37,7 +37,7 @@ other_tag_fault at t e parse rules = rw at.head.ready (parse_other_tag at t e pa
 pub too_long_fault : {header : Header} {old mid new : ReaderState} {kind : ErrorKind} → AtHeader header old mid → OctetsRefused mid new header.length kind → (t : Tag) → header.tag ≡ t → (parse : ContentsParse) (rules : EncodingRules) → unless_failed (parse_tagged t parse rules) old ≡ Err kind
 too_long_fault at refused t e parse rules = rw at.head.ready (parse_own_tag at t e parse rules ∙ parse_too_long at refused parse rules)
 
--- what reading the header of an encoding with this tag refuses is the fault of the encoding; another tag leaves the end
+-- a refusal to read the header of an encoding with this tag is the error of the encoding; another tag leaves the end unchanged
 pub record NotOpened (t : Tag) (parse : ContentsParse) (old new : ReaderState) (kind : ErrorKind) : Type 0 where
   pub fault : unless_failed (parse_tagged t parse old.rules) old ≡ Err kind
   pub reader : Refused old new kind
@@ -59,7 +59,7 @@ module _ {T : Type 0} (F : ContentsFormat T) (t : Tag) {header : Header} {old mi
   seen : F.parse shown.rules shown.position (rest shown) ≡ F.parse old.rules shown.position (rest shown)
   seen = ap (λ rules. F.parse rules shown.position (rest shown)) (shown_rules c)
 
-  -- contents octets without a fault are those of an encoding without one
+  -- contents octets without an error are those of an encoding without an error
   faultless : IsOk (unless_failed (F.parse shown.rules) shown) → IsOk (unless_failed (parse_tagged t F.parse old.rules) old)
   faultless ok =
       let there : IsOk (F.parse old.rules shown.position (rest shown)) = subst IsOk seen (let s = rw (shown_ready c) at ok in s) in
@@ -69,7 +69,7 @@ module _ {T : Type 0} (F : ContentsFormat T) (t : Tag) {header : Header} {old mi
       still (Ok contents) h = h
       still (Err k) h = absurd (cc)
 
-  -- the fault of the contents octets
+  -- the error of the contents octets
   pub contents_fault : {kind : ErrorKind} → ValueNotDecoded F shown kind → Faults F.TAKES_MEMORY F.FAULTS_FIRST (unless_failed (parse_tagged t F.parse old.rules) old) kind
   contents_fault {kind} told =
       elim told.reason [

@@ -29,7 +29,7 @@ wrote_both {a} {b} {start} w v = record {
 pub stops_in : (a b : List ℕ) (memory memory' : Bool) {kind : ErrorKind} → length a ≤ length b → (memory ≡ true → memory' ≡ true) → Stops a memory kind → Stops b memory' kind
 stops_in a b memory memory' le m s = elim s [ inl o ↦ inl (o.0, omega (arith, o.1)) | inr h ↦ inr (h.0, m h.1) ]
 
--- the beginning of a part is a beginning of the whole
+-- a prefix of a part, after the parts before it, is a prefix of the whole
 part : (n : ℕ) (done x more : List ℕ) → take (length done + min n (length x)) (done ++ (x ++ more)) ≡ done ++ take n x
 part n done x more =
     take-append-add done (x ++ more) (min n (length x)) ∙ ap (λ c. done ++ c) (take-append-le (min n (length x)) x more (omega arith) ∙ take_min n x)
@@ -53,7 +53,7 @@ module _ {done : List ℕ} {start mid : WriterState} (written : Wrote done start
     back = r.back ∙ written.back;
   }
 
-  -- a fault of a part is one of the whole
+  -- an error of a part is an error of the whole
   pub fault_within : (A B : Type 0) (part_re_reads re_reads : Bool) → (part_re_reads ≡ true → re_reads ≡ true) → (new : WriterState) (e : Error) → Encodes {A = A} x part_re_reads mid new (Err e) → Encodes {A = B} all re_reads start new (Err e)
   fault_within A B part_re_reads re_reads m new e fault = elim fault [
     | inl r ↦ inl (refused_within r)
@@ -67,7 +67,7 @@ module _ {done : List ℕ} {start mid : WriterState} (written : Wrote done start
     })
   ]
 
--- the last part of all
+-- the last part
 pub last_part : {A : Type 0} {done : List ℕ} {start mid : WriterState} → Wrote done start mid → (all x : List ℕ) → all ≡ done ++ x → (part_re_reads re_reads : Bool) → (part_re_reads ≡ true → re_reads ≡ true) → (new : WriterState) (r : Result A Error) → Encodes x part_re_reads mid new r → Encodes all re_reads start new r
 last_part {start = start} written all x whole part_re_reads re_reads m new (Ok v) told = subst (λ c. Wrote c start new) (sym whole) (wrote_both written told)
 last_part {done = done} written all x whole part_re_reads re_reads m new (Err e) told =

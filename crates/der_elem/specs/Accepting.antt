@@ -1,4 +1,4 @@
--- Which octets a value is read from, and what may follow them.
+-- The octets that a value is read from, and the octets that may follow them.
 use Rattle.std.specs.Prelude.{◌≡◌, ℕ, ◌<◌, ◌^◌, List, [], ◌∷◌, ◌++◌, length, Bool, false}
 use Rattle.der_tlv.specs.declared.encoding_rules.EncodingRules.{EncodingRules}
 use Rattle.der_tlv.specs.declared.tag.Tag.{Tag}
@@ -6,11 +6,11 @@ use Rattle.der_tlv.specs.TagParts.{IsTag}
 use Rattle.der_tlv.specs.Identifier.{identifier}
 use Rattle.der_tlv.specs.HeaderOctets.{tlv}
 
--- octets that a length can count
+-- octets whose number fits a length
 abbrev pub Fits : List ℕ → Type 0
 Fits octets = length octets < 2 ^ 32
 
--- octets that begin with a tag of these, or with one that is none of these
+-- octets that begin with one of these tags, or with a tag that is none of these
 pub record BeginsWith (tags : Tag → Bool) (one : Bool) (octets : List ℕ) : Type 0 where
   pub tag : Tag
   pub others : List ℕ
@@ -18,13 +18,13 @@ pub record BeginsWith (tags : Tag → Bool) (one : Bool) (octets : List ℕ) : T
   pub is_tag : IsTag tag
   pub is_one : tags tag ≡ one
 
--- octets that are a tag's identifier octets, length octets and as many contents octets (X.690 8.1.1)
+-- octets that are the identifier octets of a tag, length octets, and contents octets of this length (X.690 8.1.1)
 pub record IsTlv (octets : List ℕ) : Type 0 where
   pub tag : Tag
   pub contents : List ℕ
   pub octets_are : octets ≡ tlv tag contents
 
--- Whether octets are told from what follows: where there are none, nothing follows, or it begins with none of these tags.
+-- Whether octets are distinguished from what follows: if they are empty, nothing follows, or a tag that is none of these.
 abbrev pub MayFollow : (Tag → Bool) → List ℕ → List ℕ → Type 0
 MayFollow tags (y ∷ octets) x = Unit {0}
 MayFollow tags [] [] = Unit {0}

@@ -33,7 +33,7 @@ unfolding parse_array
 parse_array-step count parse rules p [] h = absurd (omega arith)
 parse_array-step count parse rules p (x ∷ xs) h = refl
 
--- the faults of a list are of its octets, where those of its items are
+-- the errors of a list are in its octets, if those of its items are
 then_item_of_octets : (r : Result (ℕ × List ℕ) ErrorKind) (others : ℕ → Result (List ℕ) ErrorKind) → IsOfOctets r → ((n : ℕ) → IsOfOctets (others n)) → IsOfOctets (then_item r others)
 then_item_of_octets (Err k) others h hs = h
 then_item_of_octets (Ok (n, octets)) others h hs = join_of_octets octets (others n) (hs n)
@@ -52,7 +52,7 @@ array_of_octets count parse h rules p c = so_many count p c
     so_many (suc count) p [] = refl
     so_many (suc count) p (x ∷ xs) = then_item_of_octets (parse rules p (x ∷ xs)) _ (h rules p (x ∷ xs)) (λ n. so_many count (p + n) (drop n (x ∷ xs)))
 
--- the items without what is asked of their octets
+-- the items, without the requirements on their octets
 accepts_parts : {T : Type 0} (accepts : T → List ℕ → Type 0) (vs : List T) (c : List ℕ) → AcceptsItems (λ v part. accepts v part × (0 < length part)) vs c → AcceptsItems accepts vs c
 accepts_parts accepts [] c e = e
 accepts_parts accepts (v ∷ vs) c (b, d, e, a, others) = (b, d, e, a.0, accepts_parts accepts vs d others)

@@ -6,11 +6,11 @@ use Rattle.der_tlv.specs.declared.tag.Tag.TheVariants.{Sequence}
 use Rattle.der_elem.specs.Parsing.{Parse, ContentsParse}
 use Rattle.der_elem.specs.Items.{AcceptsItems, EachItem, join_items}
 
--- each item is accepted from its part of the octets, which has an octet, and there are so many items
+-- each item is accepted from its part of the octets, which is not empty, and there are `count` items
 abbrev pub AcceptsArray : {T : Type 0} → (T → List ℕ → Type 0) → ℕ → List T → List ℕ → Type 0
 AcceptsArray accepts count vs octets = (length vs ≡ count) × AcceptsItems (λ v part. accepts v part × (0 < length part)) vs octets
 
--- so many readable items, whose encodings have octets
+-- `count` readable items, whose encodings have octets
 abbrev pub ReadableArray : {T : Type 0} → (T → Type 0) → (T → List ℕ) → ℕ → List T → Type 0
 ReadableArray readable encoding count vs = (length vs ≡ count) × EachItem (λ v. readable v × (0 < length (encoding v))) vs
 
@@ -29,6 +29,6 @@ parse_so_many zero parse p (x ∷ xs) = too_many (parse p (x ∷ xs))
 parse_so_many (suc count) parse p [] = Err (Length Sequence)
 parse_so_many (suc count) parse p (x ∷ xs) = then_item (parse p (x ∷ xs)) (λ n. parse_so_many count parse (p + n) (drop n (x ∷ xs)))
 
--- So many items: the first fault from the left, which may be an item that is missing (7) or too many (10).
+-- A number of items, or the first error from the left, which may be an item that is missing (7) or too many (10).
 unfoldable pub parse_array : ℕ → Parse → ContentsParse
 parse_array count parse rules p octets = parse_so_many count (parse rules) p octets

@@ -1,4 +1,4 @@
--- The contents octets of BOOLEAN, and what octets are read as (X.690 8.2, 11.1).
+-- The contents octets of BOOLEAN, and the value that octets are read as (X.690 8.2, 11.1).
 use Rattle.std.proofs.Common.{◌≡◌, ℕ, List, [], ◌∷◌, Bool, true, false, ◌||◌, ◌==◌, if◌then◌else◌, Result, Ok, Err, refl}
 use Rattle.std.specs.Ordering.{bool_cmp}
 use Rattle.der_tlv.specs.declared.error.ErrorKind.{ErrorKind}
@@ -14,17 +14,17 @@ abbrev pub boolean_contents : Bool → List ℕ
 boolean_contents false = 0 ∷ []
 boolean_contents true = 255 ∷ []
 
--- the faults: not one octet (7), another octet than those two (8)
+-- the errors: not one octet (7), an octet other than those two (8)
 abbrev pub boolean_or_fault : List ℕ → Result (List ℕ) ErrorKind
 boolean_or_fault [] = Err (kinds.Length Boolean)
 boolean_or_fault (octet ∷ []) = if octet == 0 || octet == 255 then Ok (octet ∷ []) else Err (kinds.Noncanonical Boolean)
 boolean_or_fault (octet ∷ second ∷ others) = Err (kinds.Length Boolean)
 
--- the same as a parse of contents octets, under all rules and at every position
+-- a parse of contents octets with these errors, under all rules and at every position
 abbrev pub parse_boolean : ContentsParse
 parse_boolean rules p octets = boolean_or_fault octets
 
--- what contents octets are read as: the value whose contents octets they are, or the fault
+-- the result of reading contents octets: the value whose contents octets they are, or the error
 abbrev pub ReadsBoolean : List ℕ → Result Bool ErrorKind → Type 0
 ReadsBoolean octets (Ok truth) = octets ≡ boolean_contents truth
 ReadsBoolean octets (Err kind) = boolean_or_fault octets ≡ Err kind
@@ -34,7 +34,7 @@ pub parse_boolean-own : (rules : EncodingRules) (v : Bool) (p : ℕ) → parse_b
 parse_boolean-own rules false p = refl
 parse_boolean-own rules true p = refl
 
--- the faults are of the octets
+-- the errors are in the octets
 pub boolean_of_octets : (rules : EncodingRules) (p : ℕ) (octets : List ℕ) → IsOfOctets (parse_boolean rules p octets)
 boolean_of_octets rules p [] = refl
 boolean_of_octets rules p (octet ∷ []) = of_octets_either (octet == 0 || octet == 255) (Ok (octet ∷ [])) (Err (kinds.Noncanonical Boolean)) tt refl

@@ -1,4 +1,4 @@
--- What comparing two values answers.
+-- The results of comparing two values.
 use Rattle.std.specs.Prelude.{◌≡◌, ℕ, ◌≤◌, ◌^◌, List, length, Bool, true, ◌⊎◌, Result, Ok, Err}
 use Rattle.std.specs.declared.cmp.Ordering.{Ordering}
 use Rattle.der_tlv.specs.declared.error.ErrorKind.{ErrorKind}
@@ -10,23 +10,23 @@ use Rattle.der_tlv.specs.HeaderOctets.{tlv}
 use Rattle.der_elem.specs.ContentsFormat.{ContentsFormat}
 use Rattle.der_elem.specs.declared.form.Form as form
 
--- why octets that stand for two values are not compared: no length says how many one has, the values are apart, or memory ran out where the one or the other is read again
+-- why the octets of two values are not compared: one has too many for a length, the values are not comparable, or memory ran out while one was read again
 abbrev pub IncomparableOctets : (a b : List ℕ) → (NotComparable : Type 0) → (re_reads_a re_reads_b : Bool) → ErrorKind → Type 0
 IncomparableOctets a b NotComparable re_reads_a re_reads_b Overflow = (2 ^ 32 ≤ length a) ⊎ (2 ^ 32 ≤ length b)
 IncomparableOctets a b NotComparable re_reads_a re_reads_b (Value tag) = NotComparable
 IncomparableOctets a b NotComparable re_reads_a re_reads_b Memory = (re_reads_a ≡ true) ⊎ (re_reads_b ≡ true)
 IncomparableOctets a b NotComparable re_reads_a re_reads_b _ = ⊥
 
--- what comparing them answers: their lexicographic order, or why there is none
+-- the result of comparing them: their lexicographic order, or why there is none
 abbrev pub ComparesOctets : (a b : List ℕ) → (NotComparable : Type 0) → (re_reads_a re_reads_b : Bool) → Result Ordering Error → Type 0
 ComparesOctets a b NotComparable re_reads_a re_reads_b (Ok order) = order ≡ lex a b
 ComparesOctets a b NotComparable re_reads_a re_reads_b (Err e) = IncomparableOctets a b NotComparable re_reads_a re_reads_b e.kind
 
--- why the contents octets of two values are not compared, which are apart where they are not comparable
+-- why the contents octets of two values are not compared
 abbrev pub IncomparableValues : {T : Type 0} → ContentsFormat T → T → T → ErrorKind → Type 0
 IncomparableValues F x y = IncomparableOctets (F.contents x) (F.contents y) (F.comparable x y → ⊥) (F.re_reads x) (F.re_reads y)
 
--- what comparing contents octets answers
+-- the result of comparing contents octets
 abbrev pub ComparesValues : {T : Type 0} → ContentsFormat T → T → T → Result Ordering Error → Type 0
 ComparesValues F x y = ComparesOctets (F.contents x) (F.contents y) (F.comparable x y → ⊥) (F.re_reads x) (F.re_reads y)
 
@@ -47,6 +47,6 @@ Undecided F x y = (F.comparable x y → ⊥) × SameHeader (F.encoding x) (F.enc
 abbrev pub Incomparable : {T : Type 0} → form.Ghosts T → T → T → ErrorKind → Type 0
 Incomparable F x y = IncomparableOctets (F.encoding x) (F.encoding y) (Undecided F x y) (F.re_reads x) (F.re_reads y)
 
--- what comparing two values answers: the lexicographic order of their encodings, or why there is none
+-- the result of comparing two values: the lexicographic order of their encodings, or why there is none
 abbrev pub Compares : {T : Type 0} → form.Ghosts T → T → T → Result Ordering Error → Type 0
 Compares F x y = ComparesOctets (F.encoding x) (F.encoding y) (Undecided F x y) (F.re_reads x) (F.re_reads y)

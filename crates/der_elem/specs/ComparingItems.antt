@@ -1,4 +1,4 @@
--- What comparing two lists of items answers.
+-- The results of comparing two lists of items.
 use Rattle.std.specs.Prelude.{List, flat_map, Result}
 use Rattle.std.specs.List.{list_any}
 use Rattle.std.specs.declared.cmp.Ordering.{Ordering}
@@ -12,6 +12,6 @@ use Rattle.der_elem.specs.Items.{AllComparable}
 abbrev pub IncomparableItems : {T : Type 0} → form.Ghosts T → List T → List T → ErrorKind → Type 0
 IncomparableItems F vs ws = IncomparableOctets (flat_map F.encoding vs) (flat_map F.encoding ws) (AllComparable F.comparable vs ws → ⊥) (list_any F.re_reads vs) (list_any F.re_reads ws)
 
--- what comparing the contents octets of two lists answers
+-- the result of comparing the contents octets of two lists
 abbrev pub ComparesItems : {T : Type 0} → form.Ghosts T → List T → List T → Result Ordering Error → Type 0
 ComparesItems F vs ws = ComparesOctets (flat_map F.encoding vs) (flat_map F.encoding ws) (AllComparable F.comparable vs ws → ⊥) (list_any F.re_reads vs) (list_any F.re_reads ws)

@@ -1,4 +1,4 @@
--- What reading contents octets as a whole answers.
+-- The results of reading contents octets as a whole.
 use Rattle.std.specs.Prelude.{◌≡◌, List, ℕ, length, true, false}
 use Rattle.der_tlv.specs.declared.error.ErrorKind.{ErrorKind}
 use Rattle.der_tlv.specs.declared.error.ErrorKind.TheVariants.{Failed}

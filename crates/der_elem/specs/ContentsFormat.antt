@@ -1,4 +1,4 @@
--- What the contents octets of the values of a type mean (X.690 8.1.4).
+-- The meaning of the contents octets of a type's values (X.690 8.1.4).
 use Rattle.std.specs.Prelude.{◌≡◌, ℕ, List, length, Bool, true, Ok}
 use Rattle.der_tlv.specs.declared.encoding_rules.EncodingRules.{EncodingRules}
 use Rattle.der_tlv.specs.declared.tag.Tag.{Tag}
@@ -13,17 +13,17 @@ pub record ContentsFormat (V : Type 0) : Type 1 where
   pub comparable : V → V → Type 0
   -- whether writing or comparing the value reads its items again, which takes memory
   pub re_reads : V → Bool
-  -- under rules, the grammar: the value is read from exactly these contents octets
+  -- the grammar under rules: the value is read from exactly these contents octets
   pub accepts : EncodingRules → V → List ℕ → Type 0
-  -- what parsing contents octets comes to
+  -- the result of parsing contents octets
   pub parse : ContentsParse
   -- whether reading can give the value
   pub readable : V → Type 0
-  -- whether the value may stand after a header with this tag
+  -- whether the value may follow a header with this tag
   pub has_tag : V → Tag → Type 0
   -- whether reading the contents octets takes memory
   pub TAKES_MEMORY : Bool
-  -- whether reading finds every fault of the contents octets before it takes memory
+  -- whether reading finds every error in the contents octets before it takes memory
   pub FAULTS_FIRST : Bool
   pub parse_of_accepted : (rules : EncodingRules) (v : V) (p : ℕ) (c : List ℕ) → accepts rules v c → Fits c → parse rules p c ≡ Ok (contents v)
   pub faults_of_octets : (rules : EncodingRules) (p : ℕ) (c : List ℕ) → IsOfOctets (parse rules p c)

@@ -1,4 +1,4 @@
--- Copies of lists are as the lists, if copies of items are as the items.
+-- Copies of lists have the properties of the lists, if copies of items have those of the items.
 use Rattle.std.specs.List.{list_any}
 use Rattle.std.proofs.Common.{◌≡◌, List, [], ◌∷◌, ◌++◌, Bool, ◌||◌, sym, ap, ◌∙◌, subst, flat_map, IsTrue}
 use Rattle.std.specs.Cmp.Lexicographic.{pointwise}
@@ -6,7 +6,7 @@ use Rattle.std.proofs.lemmas.Bool.{and_from}
 use Rattle.der_elem.specs.declared.form.Form as form
 use Rattle.der_elem.specs.Items.{AllComparable, AreCopies}
 
--- copies of items are equal to them, so copies of lists are, too
+-- if copies of items are equal to them, so are copies of lists
 pub copies_are_equal : {T : Type 0} (is_copy : T → T → Type 0) (eq : T → T → Bool) (same : (v w : T) → is_copy v w → IsTrue (eq v w)) (vs ws : List T) → AreCopies is_copy vs ws → IsTrue (pointwise eq vs ws)
 copies_are_equal is_copy eq same [] ws c = ap (pointwise eq []) c
 copies_are_equal is_copy eq same (v ∷ vs) [] c = absurd c

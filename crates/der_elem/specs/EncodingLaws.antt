@@ -1,4 +1,4 @@
--- What holds of all encodings, stated for the functions that promise it.
+-- Laws of all encodings, stated for the functions that promise them.
 use Rattle.std.specs.Prelude.{◌≡◌, Bool, IsTrue, ℕ, ℤ, ◌<◌, ◌≤◌, ◌^◌, List, [], ◌++◌, length, flat_map, Ok}
 use Rattle.std.specs.Ordering.{on}
 use Rattle.std.specs.Cmp.Lexicographic.{slice_cmp}
@@ -14,16 +14,16 @@ use Rattle.der_elem.specs.Decoding.{parse_all}
 use Rattle.der_elem.specs.Integer.{AreOctets, integer_contents, twos_complement}
 use Rattle.der_elem.specs.PaddedOrder.{padded_cmp}
 
--- no encoding is a proper beginning of another: what two encodings begin alike has the same tag, contents and tail
+-- no encoding is a proper prefix of another: two encodings at the start of the same octets have the same tag, contents and tail
 abbrev pub NoneBeginsAnother : Type 0
 NoneBeginsAnother = (t u : Tag) (c d x y : List ℕ) → tlv t c ++ x ≡ tlv u d ++ y → (t ≡ u) × (c ≡ d) × (x ≡ y)
 
--- no octets that are read as a value of one type are a proper beginning of octets that are read as one of the same or another type
+-- no octets that are read as a value of one type are a proper prefix of octets that are read as a value of that or another type
 abbrev pub NoneReadBeginsAnother : {T U : Type 0} → form.Ghosts T → form.Ghosts U → Type 0
 NoneReadBeginsAnother {T} {U} F G =
     (rules others : EncodingRules) (v : T) (w : U) (octets more : List ℕ) → F.accepts rules v octets → G.accepts others w (octets ++ more) → more ≡ []
 
--- to pad the shorter of two encodings with zeros does not change their order
+-- padding the shorter of two encodings with zeros does not change their order
 abbrev pub PaddingIsLexicographic : Type 0
 PaddingIsLexicographic = (t u : Tag) (c d : List ℕ) → padded_cmp (tlv t c) (tlv u d) ≡ lex (tlv t c) (tlv u d)
 
@@ -31,7 +31,7 @@ PaddingIsLexicographic = (t u : Tag) (c d : List ℕ) → padded_cmp (tlv t c) (
 abbrev pub FirstPairDecides : {T : Type 0} → (T → List ℕ) → Type 0
 FirstPairDecides {T} encoding = (vs ws : List T) → lex (flat_map encoding vs) (flat_map encoding ws) ≡ slice_cmp (on encoding lex) vs ws
 
--- what octets come to is a value, or a fault of theirs: no want of memory (1), and no earlier refusal (17)
+-- the result of reading octets is a value, or an error in them: not lack of memory (1), and not an earlier refusal (17)
 abbrev pub FaultsAreOfOctets : Parse → Type 0
 FaultsAreOfOctets parse = (rules : EncodingRules) (p : ℕ) (octets : List ℕ) → IsOfOctets (parse rules p octets)
 
@@ -44,18 +44,18 @@ abbrev pub OneValueIsRead : {T : Type 0} → form.Ghosts T → Type 0
 OneValueIsRead {T} F =
     (v w : T) (octets : List ℕ) → F.accepts Der v octets → F.accepts Der w octets → length octets < 2 ^ 32 → F.encoding v ≡ F.encoding w
 
--- the encoding of a value that was read comes to itself, so what is canonical stays as it is
+-- the encoding of a value that was read is parsed as itself, so canonical octets stay as they are
 abbrev pub EncodingsReadBack : {T : Type 0} → form.Ghosts T → Type 0
 EncodingsReadBack {T} F =
     (v : T) (octets : List ℕ) → F.accepts Der v octets → length octets < 2 ^ 32 → parse_all F.parse (F.encoding v) ≡ Ok (F.encoding v)
 
--- the encoding of a readable value that fits a length is read, as that value and as none but those that are equal to it
+-- the encoding of a readable value that fits a length is read as that value, and only as values that are equal to it
 pub record OwnEncodingIsRead {T : Type 0} (F : form.Ghosts T) (eq : T → T → Bool) (v : T) : Type 0 where
   pub accepted : F.accepts Der v (F.encoding v)
   pub parsed : parse_all F.parse (F.encoding v) ≡ Ok (F.encoding v)
   pub equal : (w : T) → F.accepts Der w (F.encoding v) → IsTrue (eq w v)
 
--- the contents octets of an integer have it as their two's complement number, and no fewer octets do (X.690 8.3.2, 8.3.3)
+-- the contents octets of an integer are its two's complement, and no fewer octets are (X.690 8.3.2, 8.3.3)
 abbrev pub IntegersAreFewest : Type 0
 IntegersAreFewest =
     (z : ℤ) → (twos_complement (integer_contents z) ≡ z) × ((c : List ℕ) → AreOctets c → 0 < length c → twos_complement c ≡ z → length (integer_contents z) ≤ length c)

@@ -1,4 +1,4 @@
--- Lists of items are equal exactly where their encodings are, if that holds of their items.
+-- Lists of items are equal exactly if their encodings are, if that holds of their items.
 use Rattle.std.proofs.Common.{◌≡◌, ℕ, List, [], ◌∷◌, ◌++◌, length, Bool, refl, sym, ap, ◌∙◌, arith, flat_map, IsTrue, ◌↔◌}
 use Rattle.std.specs.Cmp.Lexicographic.{pointwise}
 use Rattle.std.proofs.lemmas.Bool.{and_parts, and_from}
@@ -10,7 +10,7 @@ use Rattle.der_elem.specs.Items.{AllComparable}
 use Rattle.der_elem.specs.OrderLaws.{encoding-some}
 
 module _ {T : Type 0} (tag_of : T → Tag) (contents encoding : T → List ℕ) (encoding_is : (v : T) → encoding v ≡ tlv (tag_of v) (contents v)) where
-  -- the first of two joined encodings is told from what follows
+  -- the first of two joined encodings is distinguished from what follows
   pub encoding-unique : (v w : T) (x y : List ℕ) → encoding v ++ x ≡ encoding w ++ y → (encoding v ≡ encoding w) × (x ≡ y)
   encoding-unique v w x y e =
       let f : tlv (tag_of v) (contents v) ++ x ≡ tlv (tag_of w) (contents w) ++ y = ap (λ s. s ++ x) (sym (encoding_is v)) ∙ e ∙ ap (λ s. s ++ y) (encoding_is w) in

@@ -1,4 +1,4 @@
--- Where the encoding of a field starts; no encoding begins another, where both are there.
+-- The first tags of the encodings of fields; no encoding is a prefix of another, if both fields are present.
 use Rattle.std.proofs.Common.{◌≡◌, ℕ, ◌<◌, List, ◌++◌, length, Bool, true, Option, Some, None, refl, sym, ap, ◌∙◌, subst, arith, append_assoc, length-append}
 use Rattle.der_tlv.specs.declared.encoding_rules.EncodingRules.{EncodingRules}
 use Rattle.der_tlv.specs.declared.tag.Tag.{Tag}
@@ -44,7 +44,7 @@ module _ {T : Type 0} (tag_of : T → Tag) (contents encoding : T → List ℕ) 
   beginning_option first_tag first_tag_is None (Some w) h = absurd (subst (SamePresence None) (first_tag_is w) h)
   beginning_option first_tag first_tag_is (Some v) None h = absurd (subst (λ l. SamePresence l None) (first_tag_is v) h)
 
--- octets that begin with a tag are some
+-- octets that begin with a tag are not empty
 pub begins_with_tag_some : {t : Tag} {b : List ℕ} → BeginsWithTag t b → 0 < length b
 begins_with_tag_some {t} {b} l = omega (arith, ap length l.octets_are, length-append (identifier t) l.others, length-identifier-positive t)
 
@@ -53,6 +53,6 @@ has_first_tag_some F has_first_tag rules v b a =
     let present = has_first_tag v in
     begins_with_tag_some (subst (λ first_tag. BeginsWithFirst first_tag b) present.is_tag (F.begins_first rules v b a))
 
--- a field that is there is told from what follows it
+-- a field that is present is distinguished from what follows it
 pub distinguished_present : (tags : Tag → Bool) (first_tag : Option Tag) (t : Tag) (p : ℕ) (octets : List ℕ) → first_tag ≡ Some t → DistinguishedFromNext tags first_tag p octets
 distinguished_present tags first_tag t p octets e = subst (λ l. DistinguishedFromNext tags l p octets) (sym e) tt

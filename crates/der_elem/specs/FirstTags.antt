@@ -13,12 +13,12 @@ pub record BeginsWithTag (t : Tag) (octets : List ℕ) : Type 0 where
   pub octets_are : octets ≡ identifier t ++ others
   pub is_tag : IsTag t
 
--- octets that begin with this tag, or that are none
+-- octets that begin with this tag, or no octets if there is no tag
 abbrev pub BeginsWithFirst : Option Tag → List ℕ → Type 0
 BeginsWithFirst None octets = octets ≡ []
 BeginsWithFirst (Some t) octets = BeginsWithTag t octets
 
--- what leads is a tag
+-- there is a first tag
 pub record HasFirstTag (first_tag : Option Tag) : Type 0 where
   pub tag : Tag
   pub is_tag : first_tag ≡ Some tag
@@ -28,7 +28,7 @@ pub record StartsWith (t : Tag) (octets : List ℕ) : Type 0 where
   pub others : List ℕ
   pub octets_are : octets ≡ identifier t ++ others
 
--- octets that start so, or that are none
+-- octets that start with this tag, or no octets if there is no tag
 abbrev pub Starts : Option Tag → List ℕ → Type 0
 Starts None octets = octets ≡ []
 Starts (Some t) octets = StartsWith t octets

@@ -1,4 +1,4 @@
--- What contents octets mean, for types that are alike in it.
+-- The meaning of contents octets, for groups of similar types.
 use Rattle.std.specs.Prelude.{◌≡◌, ℕ, List, true, false, Ok, refl}
 use Rattle.der_tlv.specs.declared.encoding_rules.EncodingRules.{EncodingRules}
 use Rattle.der_tlv.specs.declared.tag.Tag.{Tag}
@@ -33,7 +33,7 @@ format_of_contents_within contents Within parse own faults = record {
 abbrev pub format_of_contents : {T : Type 0} (contents : T → List ℕ) (parse : ContentsParse) → ((rules : EncodingRules) (v : T) (p : ℕ) → parse rules p (contents v) ≡ Ok (contents v)) → ((rules : EncodingRules) (p : ℕ) (c : List ℕ) → IsOfOctets (parse rules p c)) → ContentsFormat T
 format_of_contents contents parse own faults = format_of_contents_within contents (λ v. Unit {0}) parse (λ rules v p r. own rules v p) faults
 
--- the same, after a tag that the value may have
+-- each value is read from its own contents octets and from no others, after a tag that the value may have
 abbrev pub format_with_tags : {T : Type 0} (contents : T → List ℕ) (has_tag : T → Tag → Type 0) (parse : ContentsParse) → ((rules : EncodingRules) (v : T) (p : ℕ) → parse rules p (contents v) ≡ Ok (contents v)) → ((rules : EncodingRules) (p : ℕ) (c : List ℕ) → IsOfOctets (parse rules p c)) → ContentsFormat T
 format_with_tags contents has_tag parse own faults = record {
   contents = contents;
@@ -54,7 +54,7 @@ format_with_tags contents has_tag parse own faults = record {
   re_reads_memory = λ v e. e;
 }
 
--- the same octets, of a type that takes memory to read
+-- the format with the same octets, for a type that takes memory to read
 abbrev pub allocating : {T : Type 0} → ContentsFormat T → ContentsFormat T
 allocating F = record F { TAKES_MEMORY = true; re_reads_memory = λ v e. refl }
 
@@ -62,7 +62,7 @@ allocating F = record F { TAKES_MEMORY = true; re_reads_memory = λ v e. refl }
 abbrev pub allocating_format : {T : Type 0} (contents : T → List ℕ) (parse : ContentsParse) → ((rules : EncodingRules) (v : T) (p : ℕ) → parse rules p (contents v) ≡ Ok (contents v)) → ((rules : EncodingRules) (p : ℕ) (c : List ℕ) → IsOfOctets (parse rules p c)) → ContentsFormat T
 allocating_format contents parse own faults = allocating (format_with_tags contents (λ v t. Unit {0}) parse own faults)
 
--- the octets of what a value holds, after any tag
+-- the octets of the value inside, after any tag
 abbrev pub mapped_format : {T U : Type 0} → (T → U) → ContentsFormat U → ContentsFormat T
 mapped_format held F = record {
   contents = λ v. F.contents (held v);

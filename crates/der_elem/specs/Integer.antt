@@ -11,11 +11,11 @@ AreOctets octets = AllBelowBase 256 octets
 abbrev pub big_endian_number : List ℕ → ℕ
 big_endian_number octets = number_from_digits 256 octets
 
--- the number of octets that have zeros after them, up to k octets
+-- the big-endian number of octets with zeros after them, up to k octets
 abbrev pub left_aligned : ℕ → List ℕ → ℕ
 left_aligned k octets = big_endian_number octets * 256 ^ (k - length octets)
 
--- base-256 digits with an octet 00 before them where there are none, or the first has its bit 8 set
+-- base-256 digits, with an octet 00 before them if there are none, or if bit 8 of the first is set
 abbrev pub with_sign_octet : List ℕ → List ℕ
 with_sign_octet [] = 0 ∷ []
 with_sign_octet (digit ∷ digits) = cond (nat_lt digit 128) (digit ∷ digits) (0 ∷ digit ∷ digits)
@@ -28,7 +28,7 @@ natural_contents number = with_sign_octet (digits_of 256 number)
 abbrev pub complement_octets : List ℕ → List ℕ
 complement_octets octets = map (λ octet. 255 - octet) octets
 
--- the same where the flag is set, and else the octets as they are
+-- the octets with each bit inverted if the flag is set, else the octets themselves
 abbrev pub complement_octets_if : Bool → List ℕ → List ℕ
 complement_octets_if negative octets = cond negative (complement_octets octets) octets
 
@@ -37,7 +37,7 @@ unfoldable pub integer_contents : ℤ → List ℕ
 integer_contents (pos number) = natural_contents number
 integer_contents (negsuc number) = complement_octets (natural_contents number)
 
--- the integer that contents octets are the two's complement of (X.690 8.3.3)
+-- the integer whose two's complement the contents octets are (X.690 8.3.3)
 abbrev pub twos_complement : List ℕ → ℤ
 twos_complement octets = cond (nat_lt (slice_index octets 0) 128) (pos (big_endian_number octets)) (pos (big_endian_number octets) -ℤ pos (256 ^ length octets))
 
@@ -59,6 +59,6 @@ FitsUnsignedWidth width number = number < 256 ^ width
 abbrev pub FitsUnsignedOctets : ℕ → List ℕ → Type 0
 FitsUnsignedOctets width octets = (length octets ≤ width) ⊎ ((slice_index octets 0 ≡ 0) × (length octets ≡ width + 1))
 
--- the same as a test
+-- the test for octets that fit
 abbrev pub fits_unsigned : ℕ → List ℕ → Bool
 fits_unsigned width octets = nat_le (length octets) width || (slice_index octets 0 == 0 && length octets == width + 1)

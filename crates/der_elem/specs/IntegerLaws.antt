@@ -11,7 +11,7 @@ use Rattle.std.specs.Int.Signed.{mag}
 use Rattle.std.specs.Int.Digits.{digits_of, number_from_digits, number_from_digits_after}
 use Rattle.der_elem.specs.Integer.{AreOctets, big_endian_number, with_sign_octet, natural_contents, complement_octets, complement_octets_if, integer_contents, twos_complement, is_redundant, FitsSignedWidth, FitsUnsignedOctets, fits_unsigned}
 
--- ---- the contents of a number that is not negative, an octet at a time
+-- ---- the contents of a number that is not negative, one octet at a time
 
 -- a last digit keeps the octet in front, unless it is the only digit
 with_sign_octet-push : (digits : List ℕ) (digit : ℕ) → (digits ≡ [] → 128 ≤ digit) → with_sign_octet (digits ++ digit ∷ []) ≡ with_sign_octet digits ++ digit ∷ []
@@ -35,7 +35,7 @@ natural_contents-step n large =
     ap with_sign_octet (digits_of_step 256 n (omega arith) (omega arith))
     ∙ with_sign_octet-push (digits_of 256 (n / 256)) (n % 256) (λ none. let quotient : n / 256 ≡ 0 = sym (number_digits_of 256 (n / 256) (omega arith)) ∙ ap (number_from_digits 256) none in omega arith)
 
--- what holds below 128, and of a number if of its quotient by 256, holds of every number
+-- a property that holds below 128, and of a number if it holds of its quotient by 256, holds of every number
 by_quotients_within : (P : ℕ → Type 0) → ((n : ℕ) → n < 128 → P n) → ((n : ℕ) → 128 ≤ n → P (n / 256) → P n) → (turns n : ℕ) → n ≤ turns → P n
 by_quotients_within P small step zero n within = small n (omega arith)
 by_quotients_within P small step (suc turns) n within = elim (cases_lt n 128) [
@@ -43,7 +43,7 @@ by_quotients_within P small step (suc turns) n within = elim (cases_lt n 128) [
   | inr above ↦ step n above (by_quotients_within P small step turns (n / 256) (omega arith))
 ]
 
--- the same, with as many turns as the number
+-- this induction, with as many steps as the number
 by_quotients : (P : ℕ → Type 0) → ((n : ℕ) → n < 128 → P n) → ((n : ℕ) → 128 ≤ n → P (n / 256) → P n) → (n : ℕ) → P n
 by_quotients P small step n = by_quotients_within P small step n n (omega arith)
 
@@ -59,7 +59,7 @@ number_after-ge : (n : ℕ) (octets : List ℕ) → n * 256 ^ length octets ≤ 
 number_after-ge n [] = omega (arith, pow-zero 256)
 number_after-ge n (octet ∷ octets) = omega (arith, number_after-ge (n * 256 + octet) octets, ap (λ p. n * p) (pow-suc 256 (length octets)), mul-le-mul_right {m = n * 256} {n = n * 256 + octet} (256 ^ length octets) (omega arith))
 
--- the same number, with as many octets after, has the same octets
+-- equal numbers with equally many octets after them have equal octets
 number_after-same : (m n : ℕ) (xs ys : List ℕ) → AreOctets xs → AreOctets ys → length xs ≡ length ys → number_from_digits_after 256 m xs ≡ number_from_digits_after 256 n ys → (m ≡ n) × (xs ≡ ys)
 number_after-same m n [] [] all_x all_y lengths numbers = (numbers, refl)
 number_after-same m n [] (y ∷ ys) all_x all_y lengths numbers = absurd (omega arith)
@@ -69,13 +69,13 @@ number_after-same m n (x ∷ xs) (y ∷ ys) all_x all_y lengths numbers =
     let same : x ≡ y = omega arith in
     (omega arith, cc)
 
--- as many octets with the same number are the same octets
+-- equally many octets with the same number are equal
 pub octets-same_number : (xs ys : List ℕ) → AreOctets xs → AreOctets ys → length xs ≡ length ys → big_endian_number xs ≡ big_endian_number ys → xs ≡ ys
 octets-same_number xs ys all_x all_y lengths numbers = (number_after-same 0 0 xs ys all_x all_y lengths numbers).1
 
 -- ---- the fewest octets of a number
 
--- the octets are the number's, and 1 + top of them are the fewest that begin with one below 128
+-- the octets are those of the number, and 1 + top of them are the fewest that begin with one below 128
 pub record IsFewest (n : ℕ) (octets : List ℕ) : Type 0 where
   pub number : big_endian_number octets ≡ n
   pub are_octets : AreOctets octets
@@ -105,7 +105,7 @@ natural_contents-is_fewest = by_quotients (λ n. IsFewest n (natural_contents n)
     (λ n small. subst (IsFewest n) (sym (natural_contents-small n small)) (record { number = omega arith; are_octets = (omega arith, tt); top = 0; count = refl; fits = omega (arith, pow-zero 256); needed = λ less e. absurd (omega arith) }))
     (λ n large quotient. subst (IsFewest n) (sym (natural_contents-step n large)) (fewest-step n (natural_contents (n / 256)) large quotient))
 
--- a length that is at most k, from what fits in 1 + k octets
+-- top is at most k if the number fits in 1 + k octets
 top-le : (n top k : ℕ) → ((less : ℕ) → top ≡ suc less → 128 * 256 ^ less ≤ n) → n < 128 * 256 ^ k → top ≤ k
 top-le n zero k needed fits = omega arith
 top-le n (suc less) k needed fits = elim (cases_lt k (suc less)) [
@@ -113,7 +113,7 @@ top-le n (suc less) k needed fits = elim (cases_lt k (suc less)) [
   | inr within ↦ within
 ]
 
--- a number has one such list of octets
+-- a number has only one such list of octets
 pub fewest-unique : (n : ℕ) (xs ys : List ℕ) → IsFewest n xs → IsFewest n ys → xs ≡ ys
 fewest-unique n xs ys p q = octets-same_number xs ys p.are_octets q.are_octets
     (omega (arith, p.count, q.count, top-le n p.top q.top p.needed q.fits, top-le n q.top p.top q.needed p.fits))
@@ -125,7 +125,7 @@ fewest-unique n xs ys p q = octets-same_number xs ys p.are_octets q.are_octets
 pub is_redundant-false : (first second : ℕ) (rest : List ℕ) → first < 256 → second < 256 → 128 ≤ first * 256 + second → first * 256 + second < 65408 → is_redundant (first ∷ second ∷ rest) ≡ false
 is_redundant-false first second rest small_first small_second low high = grind (arith, nat_tests)
 
--- and the other way round
+-- the converse
 pub between_redundant : (first second : ℕ) (rest : List ℕ) → first < 256 → second < 256 → is_redundant (first ∷ second ∷ rest) ≡ false → (128 ≤ first * 256 + second) × (first * 256 + second < 65408)
 between_redundant first second rest small_first small_second needed = (grind (arith, nat_tests), grind (arith, nat_tests))
 
@@ -179,15 +179,15 @@ fewest-of_octets (first ∷ rest) all some small needed = record {
 
 -- ---- the contents of a number that is not negative
 
--- reading what was written gives the number back
+-- reading what was written returns the number
 pub number_natural_contents : (n : ℕ) → big_endian_number (natural_contents n) ≡ n
 number_natural_contents n = (natural_contents-is_fewest n).number
 
--- each of them is an octet
+-- each of the contents is an octet
 pub natural_contents-are_octets : (n : ℕ) → AreOctets (natural_contents n)
 natural_contents-are_octets n = (natural_contents-is_fewest n).are_octets
 
--- there is at least one (X.690 8.3.1)
+-- there is at least one octet (X.690 8.3.1)
 pub natural_contents-some : (n : ℕ) → 0 < length (natural_contents n)
 natural_contents-some n = let fewest = natural_contents-is_fewest n in omega (arith, fewest.count)
 
@@ -212,23 +212,23 @@ natural_contents-of_octets octets all some small needed = fewest-unique (big_end
 pub natural_contents-injective : (m n : ℕ) → natural_contents m ≡ natural_contents n → m ≡ n
 natural_contents-injective m n same = sym (number_natural_contents m) ∙ ap big_endian_number same ∙ number_natural_contents n
 
--- ---- how many octets a number that is not negative takes
+-- ---- the number of octets of a number that is not negative
 
 -- a number fits in 8k + 7 bits exactly if its contents are at most k + 1 octets
 pub natural_contents-length_le : (n k : ℕ) → n < 128 * 256 ^ k → length (natural_contents n) ≤ k + 1
 natural_contents-length_le n k fits = let fewest = natural_contents-is_fewest n in omega (arith, fewest.count, top-le n fewest.top k fewest.needed fits)
 
--- and the other way round
+-- the converse
 pub natural_contents-fits : (n k : ℕ) → length (natural_contents n) ≤ k + 1 → n < 128 * 256 ^ k
 natural_contents-fits n k within =
     let fewest = natural_contents-is_fewest n in
     omega (arith, fewest.fits, pow-le-pow_right {n = 256} (omega arith) {i = fewest.top} {j = k} (omega (arith, fewest.count)))
 
--- the length is k + 1 where the number fits in 8k + 7 bits and in no fewer octets
+-- the length is k + 1 if the number fits in 8k + 7 bits and in no fewer octets
 pub natural_contents-length : (n k : ℕ) → n < 128 * 256 ^ k → ((less : ℕ) → k ≡ suc less → 128 * 256 ^ less ≤ n) → length (natural_contents n) ≡ k + 1
 natural_contents-length n k fits needed = let fewest = natural_contents-is_fewest n in omega (arith, fewest.count, top-le n fewest.top k fewest.needed fits, top-le n k fewest.top needed fewest.fits)
 
--- a number of w whole octets takes at most one octet more, which is then 00
+-- a number of w whole octets has at most one contents octet more, which is then 00
 pub natural_contents-octets_le : (n w : ℕ) → n < 256 ^ w → length (natural_contents n) ≤ w + 1
 natural_contents-octets_le n w fits = natural_contents-length_le n w (omega arith)
 
@@ -243,11 +243,11 @@ number-zero_first (first ∷ rest) w all count fits = elim (cases_lt 0 first) [
   | inr none ↦ omega arith
 ]
 
--- the same of a number's contents
+-- a number of w octets leaves the first of w + 1 contents octets zero
 pub natural_contents-zero_first : (n w : ℕ) → n < 256 ^ w → length (natural_contents n) ≡ w + 1 → slice_index (natural_contents n) 0 ≡ 0
 natural_contents-zero_first n w fits count = number-zero_first (natural_contents n) w (natural_contents-are_octets n) count (omega (arith, number_natural_contents n))
 
--- the contents of a number of w octets fit in w octets, but for a 00 in front
+-- the contents of a number of w octets fit in w octets, apart from a 00 in front
 pub natural_contents-fits_octets : (n w : ℕ) → n < 256 ^ w → FitsUnsignedOctets w (natural_contents n)
 natural_contents-fits_octets n w fits = elim (cases_lt w (length (natural_contents n))) [
   | inl more ↦
@@ -256,14 +256,14 @@ natural_contents-fits_octets n w fits = elim (cases_lt w (length (natural_conten
   | inr within ↦ inl within
 ]
 
--- the test says so exactly where they fit
+-- the test is true exactly if the octets fit
 pub Decides-fits_unsigned : (width : ℕ) (octets : List ℕ) → Decides (fits_unsigned width octets) (FitsUnsignedOctets width octets)
 Decides-fits_unsigned width octets =
     Decides-or (nat_le (length octets) width) (slice_index octets 0 == 0 && length octets == width + 1)
     (λ e. leb-true (length octets) width e, le-leb (length octets) width)
     (Decides-and (slice_index octets 0 == 0) (length octets == width + 1) (Decides-eqb (slice_index octets 0) 0) (Decides-eqb (length octets) (width + 1)))
 
--- octets are a number below the power of 256 at their count, and no 00 in front adds to it
+-- octets write a number below 256 to their count, and a 00 in front adds nothing to it
 pub number-fits_octets : (octets : List ℕ) (w : ℕ) → AreOctets octets → FitsUnsignedOctets w octets → big_endian_number octets < 256 ^ w
 number-fits_octets octets w all (inl within) = omega (arith, number_lt 256 octets all, pow-le-pow_right {n = 256} (omega arith) {i = length octets} {j = w} within)
 number-fits_octets [] w all (inr more) = omega (arith, more.1)
@@ -279,11 +279,11 @@ number-fits (first ∷ rest) k all within small =
     let high : (0 * 256 + first + 1) * 256 ^ length rest ≤ 128 * 256 ^ length rest = mul-le-mul_right (256 ^ length rest) (omega arith) in
     omega (arith, number_after_lt 256 (0 * 256 + first) rest all.1, pow-le-pow_right {n = 256} (omega arith) {i = length rest} {j = k} (omega arith))
 
--- an octet 00 in front leaves the number as it is
+-- an octet 00 in front does not change the number
 pub number-zero_front : (octets : List ℕ) → big_endian_number (0 ∷ octets) ≡ big_endian_number octets
 number-zero_front octets = refl
 
--- octets that begin with no 00 are the digits of their number, so its contents are they, with a 00 before them where it is needed
+-- octets that do not begin with 00 are the digits of their number, so its contents are these octets, after a 00 if it is needed
 pub natural_contents-with_sign_octet : (octets : List ℕ) → AreOctets octets → (0 < length octets → 0 < slice_index octets 0) → natural_contents (big_endian_number octets) ≡ with_sign_octet octets
 natural_contents-with_sign_octet [] all highest = natural_contents-small 0 (omega arith)
 natural_contents-with_sign_octet (first ∷ rest) all highest = elim (cases_lt first 128) [
@@ -308,17 +308,17 @@ natural_contents-shortest octets all some small = omega (arith, natural_contents
 
 -- ---- octets with each bit inverted
 
--- as many octets
+-- inverting does not change how many octets there are
 pub length-complement_octets : (octets : List ℕ) → length (complement_octets octets) ≡ length octets
 length-complement_octets [] = refl
 length-complement_octets (octet ∷ octets) = ap suc (length-complement_octets octets)
 
--- each of them is an octet
+-- each inverted octet is an octet
 pub complement_octets-are_octets : (octets : List ℕ) → AreOctets (complement_octets octets)
 complement_octets-are_octets [] = tt
 complement_octets-are_octets (octet ∷ octets) = (omega arith, complement_octets-are_octets octets)
 
--- inverted twice, the octets are back
+-- octets that are inverted twice are unchanged
 pub complement_octets-twice : (octets : List ℕ) → AreOctets octets → complement_octets (complement_octets octets) ≡ octets
 complement_octets-twice [] all = refl
 complement_octets-twice (octet ∷ octets) all = let same : 255 - (255 - octet) ≡ octet = omega (arith, all.0) in ap₂ ◌∷◌ same (complement_octets-twice octets all.1)
@@ -330,16 +330,16 @@ number_after-complement_octets m n (octet ∷ octets) all =
     number_after-complement_octets (m * 256 + (255 - octet)) (n * 256 + octet) octets all.1
     ∙ (let inverted : 255 - octet + octet ≡ 255 = omega (arith, all.0) in omega (arith, ap (λ p. (m + n + 1) * p) (pow-suc 256 (length octets)), ap (λ v. v * 256 ^ length octets) inverted))
 
--- the two numbers of octets and of their inverse are together 256 ^ length - 1
+-- the numbers that octets and their inverse write add up to 256 ^ length - 1
 pub number-complement_octets : (octets : List ℕ) → AreOctets octets → big_endian_number (complement_octets octets) + big_endian_number octets + 1 ≡ 256 ^ length octets
 number-complement_octets octets all = number_after-complement_octets 0 0 octets all ∙ omega arith
 
--- the first octet is the inverse of the first
+-- the first octet of the inverse is the inverse of the first octet
 pub complement_octets-first : (octets : List ℕ) → 0 < length octets → slice_index (complement_octets octets) 0 ≡ 255 - slice_index octets 0
 complement_octets-first [] some = absurd (omega arith)
 complement_octets-first (first ∷ rest) some = refl
 
--- octets that are not redundant are not when inverted
+-- octets that are not redundant are not redundant when inverted
 pub complement_octets-needed : (octets : List ℕ) → AreOctets octets → is_redundant octets ≡ false → is_redundant (complement_octets octets) ≡ false
 complement_octets-needed [] all needed = refl
 complement_octets-needed (first ∷ []) all needed = refl
@@ -359,7 +359,7 @@ pub integer_contents-negsuc : (n : ℕ) → integer_contents (negsuc n) ≡ comp
 unfolding integer_contents
 integer_contents-negsuc n = refl
 
--- both in one, with the sign as a flag
+-- both cases, with the sign as a flag
 pub integer_contents-complement_if : (negative : Bool) (n : ℕ) → integer_contents (complement_if negative n) ≡ complement_octets_if negative (natural_contents n)
 integer_contents-complement_if false n = integer_contents-pos n
 integer_contents-complement_if true n = integer_contents-negsuc n
@@ -374,12 +374,12 @@ pub integer_contents-are_octets : (z : ℤ) → AreOctets (integer_contents z)
 integer_contents-are_octets (pos n) = subst AreOctets (sym (integer_contents-pos n)) (natural_contents-are_octets n)
 integer_contents-are_octets (negsuc n) = subst AreOctets (sym (integer_contents-negsuc n)) (complement_octets-are_octets (natural_contents n))
 
--- as many octets as the number has, or the number -1 - z of a negative z
+-- the contents of z have as many octets as those of z, or of -1 - z for a negative z
 pub integer_contents-length : (z : ℤ) → length (integer_contents z) ≡ length (natural_contents (mag z))
 integer_contents-length (pos n) = ap length (integer_contents-pos n)
 integer_contents-length (negsuc n) = ap length (integer_contents-negsuc n) ∙ length-complement_octets (natural_contents n)
 
--- there is at least one (X.690 8.3.1)
+-- there is at least one octet (X.690 8.3.1)
 pub integer_contents-some : (z : ℤ) → 0 < length (integer_contents z)
 integer_contents-some z = omega (arith, integer_contents-length z, natural_contents-some (mag z))
 
@@ -388,38 +388,38 @@ pub integer_contents-needed : (z : ℤ) → is_redundant (integer_contents z) �
 integer_contents-needed (pos n) = ap is_redundant (integer_contents-pos n) ∙ natural_contents-needed n
 integer_contents-needed (negsuc n) = ap is_redundant (integer_contents-negsuc n) ∙ complement_octets-needed (natural_contents n) (natural_contents-are_octets n) (natural_contents-needed n)
 
--- bit 8 of the first octet is the sign: zero where the integer is not negative
+-- bit 8 of the first octet is the sign: zero if the integer is not negative
 pub integer_contents-pos_first : (n : ℕ) → slice_index (integer_contents (pos n)) 0 < 128
 integer_contents-pos_first n = omega (arith, ap (λ c. slice_index c 0) (integer_contents-pos n), natural_contents-first n)
 
--- and it is set where the integer is negative
+-- bit 8 of the first octet is set if the integer is negative
 pub integer_contents-negsuc_first : (n : ℕ) → 128 ≤ slice_index (integer_contents (negsuc n)) 0
 integer_contents-negsuc_first n = omega (arith, ap (λ c. slice_index c 0) (integer_contents-negsuc n), complement_octets-first (natural_contents n) (natural_contents-some n), natural_contents-first n)
 
--- ---- the integer that octets are the two's complement of
+-- ---- the integer whose two's complement octets are
 
--- where bit 8 of the first octet is zero: the number of the octets
+-- if bit 8 of the first octet is zero: the number that the octets write
 pub twos_complement-pos : (octets : List ℕ) → slice_index octets 0 < 128 → twos_complement octets ≡ pos (big_endian_number octets)
 twos_complement-pos octets small = ap (λ t. cond t (pos (big_endian_number octets)) (pos (big_endian_number octets) -ℤ pos (256 ^ length octets))) (lt-ltb (slice_index octets 0) 128 small)
 
--- n less p is below zero where p is more
+-- n - p is negative if p is greater
 less-ℤ : (n p less : ℕ) → less + n + 1 ≡ p → pos n -ℤ pos p ≡ negsuc less
 less-ℤ n p less sum = omega (arith, ints)
 
--- where it is set: -1 - n, with n the number of the inverted octets
+-- if bit 8 is set: -1 - n, where n is the number that the inverted octets write
 pub twos_complement-negsuc : (octets : List ℕ) → AreOctets octets → 128 ≤ slice_index octets 0 → twos_complement octets ≡ negsuc (big_endian_number (complement_octets octets))
 twos_complement-negsuc octets all large =
     ap (λ t. cond t (pos (big_endian_number octets)) (pos (big_endian_number octets) -ℤ pos (256 ^ length octets))) (le-ltb (slice_index octets 0) 128 large)
     ∙ less-ℤ (big_endian_number octets) (256 ^ length octets) (big_endian_number (complement_octets octets)) (number-complement_octets octets all)
 
--- both in one, with the sign as a flag
+-- both cases, with the sign as a flag
 pub twos_complement-complement_if : (octets : List ℕ) → AreOctets octets → twos_complement octets ≡ complement_if (nat_le 128 (slice_index octets 0)) (big_endian_number (complement_octets_if (nat_le 128 (slice_index octets 0)) octets))
 twos_complement-complement_if octets all = elim (cases_lt (slice_index octets 0) 128) [
   | inl small ↦ let test : nat_le 128 (slice_index octets 0) ≡ false = grind (arith, nat_tests) in twos_complement-pos octets small ∙ ap (λ t. complement_if t (big_endian_number (complement_octets_if t octets))) (sym test)
   | inr large ↦ let test : nat_le 128 (slice_index octets 0) ≡ true = grind (arith, nat_tests) in twos_complement-negsuc octets all large ∙ ap (λ t. complement_if t (big_endian_number (complement_octets_if t octets))) (sym test)
 ]
 
--- reading what was written gives the integer back
+-- reading what was written returns the integer
 pub twos_complement_integer_contents : (z : ℤ) → twos_complement (integer_contents z) ≡ z
 twos_complement_integer_contents (pos n) =
     twos_complement-pos (integer_contents (pos n)) (integer_contents-pos_first n)
@@ -431,7 +431,7 @@ twos_complement_integer_contents (negsuc n) =
     ∙ ap (λ c. negsuc (big_endian_number c)) (complement_octets-twice (natural_contents n) (natural_contents-are_octets n))
     ∙ ap negsuc (number_natural_contents n)
 
--- writing what was read gives the octets back, where none is redundant
+-- writing what was read returns the octets, if none is redundant
 pub integer_contents_twos_complement : (octets : List ℕ) → AreOctets octets → 0 < length octets → is_redundant octets ≡ false → integer_contents (twos_complement octets) ≡ octets
 integer_contents_twos_complement octets all some needed = elim (cases_lt (slice_index octets 0) 128) [
   | inl small ↦
@@ -449,13 +449,13 @@ integer_contents_twos_complement octets all some needed = elim (cases_lt (slice_
 pub integer_contents-injective : (y z : ℤ) → integer_contents y ≡ integer_contents z → y ≡ z
 integer_contents-injective y z same = sym (twos_complement_integer_contents y) ∙ ap twos_complement same ∙ twos_complement_integer_contents z
 
--- ---- how many octets an integer takes
+-- ---- the number of octets of an integer
 
 -- n for n, and -1 - z for a negative z: an integer fits in 8k + 8 bits exactly if its contents are at most k + 1 octets
 pub integer_contents-length_le : (z : ℤ) (k : ℕ) → mag z < 128 * 256 ^ k → length (integer_contents z) ≤ k + 1
 integer_contents-length_le z k fits = omega (arith, integer_contents-length z, natural_contents-length_le (mag z) k fits)
 
--- and the other way round
+-- the converse
 pub integer_contents-fits : (z : ℤ) (k : ℕ) → length (integer_contents z) ≤ k + 1 → mag z < 128 * 256 ^ k
 integer_contents-fits z k within = natural_contents-fits (mag z) k (omega (arith, integer_contents-length z))
 
@@ -483,7 +483,7 @@ half_power w some =
 pub integer_contents-length_le_width : (w : ℕ) (z : ℤ) → 0 < w → FitsSignedWidth w z → length (integer_contents z) ≤ w
 integer_contents-length_le_width w z some fits = omega (arith, half_power w some, integer_contents-length_le z (w - 1) (omega (arith, half_power w some)))
 
--- and the other way round
+-- the converse
 pub integer_contents-fits_width : (w : ℕ) (z : ℤ) → 0 < w → length (integer_contents z) ≤ w → FitsSignedWidth w z
 integer_contents-fits_width w z some within = omega (arith, half_power w some, integer_contents-fits z (w - 1) (omega arith))
 
@@ -499,7 +499,7 @@ integer_contents-shortest z octets all some same =
 
 -- ---- the length from the count of bits
 
--- a number of m bits, of which the highest is set, takes m / 8 + 1 octets
+-- a number of m bits with the highest set has m / 8 + 1 octets
 pub natural_contents-length_bits : (n m : ℕ) → n < 2 ^ m → 2 ^ m ≤ 2 * n + 1 → length (natural_contents n) ≡ m / 8 + 1
 natural_contents-length_bits n m fits highest = natural_contents-length n (m / 8) below needed
   where
@@ -509,7 +509,7 @@ natural_contents-length_bits n m fits highest = natural_contents-length n (m / 8
     needed : (less : ℕ) → m / 8 ≡ suc less → 128 * 256 ^ less ≤ n
     needed less e = omega (arith, octet_power (suc less), pow-suc 256 less, pow_mono {i = 8 * suc less} {j = m} (omega arith))
 
--- the same, from the count of leading zeros at 128 bits
+-- that length, from the count of leading zeros at 128 bits
 pub natural_contents-leading_zeros : (n : ℕ) → n < 2 ^ 128 → length (natural_contents n) ≡ (128 - leading_zeros w128 n) / 8 + 1
 natural_contents-leading_zeros n fits =
     let found = leading_length 128 n fits in

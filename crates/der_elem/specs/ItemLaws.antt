@@ -15,7 +15,7 @@ then_items-same (Err k) f g h = refl
 then_items-same (Ok (zero, s)) f g h = refl
 then_items-same (Ok (suc n, s)) f g h = ap (join_items s) (h n)
 
--- to allow more items than there are octets changes nothing
+-- allowing more items than there are octets changes nothing
 enough_items : (parse : ℕ → List ℕ → Result (ℕ × List ℕ) ErrorKind) (j k p : ℕ) (c : List ℕ) → length c ≤ j → length c ≤ k → parse_items_up_to j parse p c ≡ parse_items_up_to k parse p c
 enough_items parse zero zero p c a b = refl
 enough_items parse zero (suc k) p [] a b = refl
@@ -42,7 +42,7 @@ parse_items-more parse rules p zero c s h o e = absurd (omega arith)
 parse_items-more parse rules p (suc n) c s h o e =
     parse_items-step parse rules p c h ∙ ap (λ r. then_items r (λ n. parse_items parse rules (p + n) (drop n c))) e
 
--- the faults of a list are of its octets, where those of its items are
+-- the errors of a list are in its octets, if those of its items are
 pub join_of_octets : (octets : List ℕ) (r : Result (List ℕ) ErrorKind) → IsOfOctets r → IsOfOctets (join_items octets r)
 join_of_octets octets (Ok others) h = tt
 join_of_octets octets (Err k) h = h
@@ -62,7 +62,7 @@ pub items_of_octets : (parse : Parse) → ((rules : EncodingRules) (p : ℕ) (c 
 unfolding parse_items
 items_of_octets parse h rules p c = up_to_of_octets (parse rules) (h rules) (length c) p c
 
--- two parts of octets that fit
+-- both parts of octets that fit a length also fit
 pub first_fits : (c b d : List ℕ) → c ≡ b ++ d → Fits c → Fits b
 first_fits c b d e fits = omega (arith, ap length e, length-append b d)
 

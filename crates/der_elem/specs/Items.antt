@@ -13,7 +13,7 @@ abbrev pub EachItem : {T : Type 0} → (T → Type 0) → List T → Type 0
 EachItem p [] = Unit {0}
 EachItem p (v ∷ vs) = p v × EachItem p vs
 
--- what the others come to, after these octets
+-- the result for the other items, after these octets
 abbrev pub join_items : List ℕ → Result (List ℕ) ErrorKind → Result (List ℕ) ErrorKind
 join_items octets (Ok others) = Ok (octets ++ others)
 join_items octets (Err k) = Err k
@@ -24,13 +24,13 @@ then_items (Err k) others = Err k
 then_items (Ok (zero, octets)) others = Ok []
 then_items (Ok (suc n, octets)) others = join_items octets (others (suc n))
 
--- at most so many items
+-- at most a number of items
 abbrev pub parse_items_up_to : ℕ → (ℕ → List ℕ → Result (ℕ × List ℕ) ErrorKind) → ℕ → List ℕ → Result (List ℕ) ErrorKind
 parse_items_up_to zero parse p octets = Ok []
 parse_items_up_to (suc count) parse p [] = Ok []
 parse_items_up_to (suc count) parse p (x ∷ xs) = then_items (parse p (x ∷ xs)) (λ n. parse_items_up_to count parse (p + n) (drop n (x ∷ xs)))
 
--- item after item until nothing is left; the first fault from the left
+-- item after item until no octet is left, or the first error from the left
 unfoldable pub parse_items : Parse → ContentsParse
 parse_items parse rules p octets = parse_items_up_to (length octets) (parse rules) p octets
 
@@ -40,7 +40,7 @@ AllComparable comparable [] ws = Unit {0}
 AllComparable comparable (v ∷ vs) [] = Unit {0}
 AllComparable comparable (v ∷ vs) (w ∷ ws) = comparable v w × AllComparable comparable vs ws
 
--- each item of a list is a copy of the item at its place in the other
+-- each item of a list is a copy of the item at its index in the other list
 abbrev pub AreCopies : {T : Type 0} → (T → T → Type 0) → List T → List T → Type 0
 AreCopies is_copy [] ws = ws ≡ []
 AreCopies is_copy (v ∷ vs) [] = ⊥

@@ -23,7 +23,7 @@ one_of_right (u ∷ tags) others t e = or_right (has_number (class_of u) (number
 own_number : (u : Tag) → has_number (class_of u) (number_of u) u ≡ true
 own_number u = and_from (class_index (class_of u) == class_index (class_of u)) (number_of u == number_of u) (eq-eqb (class_index (class_of u)) (class_index (class_of u)) refl) (eq-eqb (number_of u) (number_of u) refl)
 
--- a type with one tag has that one
+-- the one tag of a type is a known tag
 pub own_is_known : (u t : Tag) → same_identifier t u ≡ true → may_be (Some (u ∷ [])) t ≡ true
 own_is_known u t e = subst (λ x. may_be (Some (u ∷ [])) x ≡ true) (sym (same_identifier-true t u e)) (ap (λ a. a || false) (own_number u))
 
@@ -37,7 +37,7 @@ known_right None others t e = refl
 known_right (Some tags) None t e = refl
 known_right (Some tags) (Some others) t e = one_of_right tags others t e
 
--- what either has, is known of both
+-- a tag of either type is one of the known tags of the two types
 pub known_either : (known others : Option (List Tag)) (p q : Tag → Bool) → ((t : Tag) → p t ≡ true → may_be known t ≡ true) → ((t : Tag) → q t ≡ true → may_be others t ≡ true) → (t : Tag) → (p t || q t) ≡ true → may_be (known_of_both known others) t ≡ true
 known_either known others p q f g t e = at (p t) refl
   where
@@ -45,7 +45,7 @@ known_either known others p q f g t e = at (p t) refl
     at true h = known_left known others t (f t h)
     at false h = known_right known others t (g t (ap (λ b. b || q t) (sym h) ∙ e))
 
--- a tag is one of these where another with its class and number is
+-- a tag is one of these if another tag with its class and number is
 one_of_alike : (tags : List Tag) (t u : Tag) → class_index (class_of t) ≡ class_index (class_of u) → number_of t ≡ number_of u → is_one_of tags t ≡ is_one_of tags u
 one_of_alike [] t u c n = refl
 one_of_alike (v ∷ tags) t u c n =

@@ -23,7 +23,7 @@ module _ (tags : Tag → Bool) where
   next_tag one p octets x h =
       ap (read_tag p) (ap (λ o. o ++ x) h.octets_are ∙ append_assoc (identifier h.tag) h.others x) ∙ read_tag-identifier h.tag p (h.others ++ x) h.is_tag
 
--- the faults are of the octets, where those of the value are
+-- the errors are in the octets, if those of the value are
 at_tag_of_octets : (tags : Tag → Bool) (parsed : Result (ℕ × List ℕ) ErrorKind) (next : Result (ℕ × Tag) ErrorKind) → IsOfOctets parsed → IsOfOctets next → IsOfOctets (parse_at_tag tags parsed next)
 at_tag_of_octets tags parsed (Err k) h next = next
 at_tag_of_octets tags parsed (Ok (count, tag)) h next = of_octets_either (tags tag) parsed (Ok (0, [])) h tt
@@ -107,7 +107,7 @@ module _ {T : Type 0} (F : form.Ghosts T) where
   copy_re_reads_option is_copy same (Some v) (Some w) c = same v w c
 
 module _ {T : Type 0} (tag_of : T → Tag) (contents encoding : T → List ℕ) (encoding_is : (v : T) → encoding v ≡ tlv (tag_of v) (contents v)) (comparable : T → T → Type 0) (eq : T → T → Bool) (encoding_eq : (v w : T) → comparable v w → IsTrue (eq v w) ↔ (encoding v ≡ encoding w)) where
-  -- options are equal exactly where their encodings are: an absent value has no octets, and a value has some
+  -- options are equal exactly if their encodings are: an absent value has no octets, and a present value has some
   pub encoding_eq_option : (o q : Option T) → comparable_option comparable o q → IsTrue (option_eq eq o q) ↔ (encoding_option encoding o ≡ encoding_option encoding q)
   encoding_eq_option None None h = (λ _. refl, λ _. refl)
   encoding_eq_option None (Some w) h = (λ e. absurd (cc), λ e. let some = encoding-some tag_of contents encoding encoding_is w in absurd (omega (arith, ap length e)))

@@ -15,7 +15,7 @@ abbrev pub first_tag_option : {T : Type 0} → (T → Option Tag) → Option T �
 first_tag_option first_tag None = None
 first_tag_option first_tag (Some v) = first_tag v
 
--- an absent value is of each form
+-- an absent value is comparable with every value
 abbrev pub comparable_option : {T : Type 0} → (T → T → Type 0) → Option T → Option T → Type 0
 comparable_option comparable (Some v) (Some w) = comparable v w
 comparable_option comparable (Some v) None = Unit {0}
@@ -40,12 +40,12 @@ is_copy_option is_copy (Some v) (Some w) = is_copy v w
 is_copy_option is_copy None (Some w) = ⊥
 is_copy_option is_copy (Some v) None = ⊥
 
--- once the next tag is read: a value where the tag is one of these, else none
+-- after the next tag is read: a value if the tag is one of these, else none
 abbrev pub parse_at_tag : (Tag → Bool) → Result (ℕ × List ℕ) ErrorKind → Result (ℕ × Tag) ErrorKind → Result (ℕ × List ℕ) ErrorKind
 parse_at_tag tags parsed (Err k) = Err k
 parse_at_tag tags parsed (Ok (count, tag)) = if tags tag then parsed else Ok (0, [])
 
--- At the end, and before a tag that is none of these, there is no value. The next tag's faults come first.
+-- At the end, and before a tag that is none of these, there is no value. The errors of the next tag come first.
 abbrev pub parse_option : (Tag → Bool) → Parse → Parse
 parse_option tags parse rules p [] = Ok (0, [])
 parse_option tags parse rules p (z ∷ octets) = parse_at_tag tags (parse rules p (z ∷ octets)) (read_tag p (z ∷ octets))

@@ -1,4 +1,4 @@
--- Types of which each value is read from its own contents octets and from no others, under all rules.
+-- Types whose values are each read from their own contents octets and from no others, under all rules.
 use Rattle.std.specs.Prelude.{◌≡◌, ℕ, List, length, false, Result, Ok, Err}
 use Rattle.der_tlv.specs.declared.encoding_rules.EncodingRules.{EncodingRules}
 use Rattle.der_tlv.specs.declared.error.ErrorKind.{ErrorKind}
@@ -10,11 +10,11 @@ use Rattle.der_elem.specs.Parsing.{ContentsParse}
 abbrev pub accepts_own : {T : Type 0} → (T → List ℕ) → EncodingRules → T → List ℕ → Type 0
 accepts_own contents rules v c = c ≡ contents v
 
--- the same, of the values within a range
+-- the value's own contents octets, for the values within a range
 abbrev pub accepts_within : {T : Type 0} → (T → List ℕ) → (T → Type 0) → EncodingRules → T → List ℕ → Type 0
 accepts_within contents Within rules v c = (c ≡ contents v) × Within v
 
--- one within the range was decoded from contents octets, which are its own
+-- a value within the range was decoded from contents octets, which are its own
 pub record OwnDecoded {T : Type 0} (contents : T → List ℕ) (Within : T → Type 0) (parse : ContentsParse) (old new : ReaderState) (v : T) : Type 0 where
   pub ready : old.failed ≡ false
   pub parsed : parse old.rules old.position (rest old) ≡ Ok (contents v)
@@ -22,11 +22,11 @@ pub record OwnDecoded {T : Type 0} (contents : T → List ℕ) (Within : T → T
   pub within : Within v
   pub after : new ≡ after_read old (length (rest old))
 
--- none was decoded, for this fault
+-- no value was decoded, for this error
 pub record OwnNotDecoded (parse : ContentsParse) (old : ReaderState) (kind : ErrorKind) : Type 0 where
   pub fault_is : unless_failed (parse old.rules) old ≡ Err kind
 
--- what decoding such a value answers, with no memory
+-- the result of decoding such a value, without memory
 abbrev pub DecodesOwn : {T : Type 0} → (T → List ℕ) → (T → Type 0) → ContentsParse → ReaderState → ReaderState → Result T Error → Type 0
 DecodesOwn contents Within parse old new (Ok v) = OwnDecoded contents Within parse old new v
 DecodesOwn contents Within parse old new (Err e) = OwnNotDecoded parse old e.kind

@@ -1,4 +1,4 @@
--- Padding with zeros does not change the order of encodings, since none begins another.
+-- Padding with zeros does not change the order of encodings, since none is a prefix of another.
 use Rattle.std.proofs.Common.{◌≡◌, ℕ, ◌-◌, List, length, refl, ap, ◌∙◌, Ordering}
 use Rattle.std.proofs.Math.ListN.{replicate}
 use Rattle.std.specs.declared.cmp.Ordering.TheVariants.{Less, Equal, Greater}

@@ -1,4 +1,4 @@
--- What the calls answer that read an array item by item.
+-- The results of the calls that read an array item by item.
 use Rattle.std.specs.Prelude.{◌≡◌, [], false, Result, Ok, Err, ◌<◌, length, ◌⊎◌}
 use Rattle.der_tlv.specs.declared.error.ErrorKind.{ErrorKind}
 use Rattle.der_tlv.specs.declared.error.ErrorKind.TheVariants.{Length}
@@ -15,7 +15,7 @@ pub record ItemDecoded {T : Type 0} (F : form.Ghosts T) (old new : ReaderState) 
   pub some : 0 < length (rest old)
   pub item : Decoded F old new v
 
--- no item was read: there is none (7), or its fault
+-- no item was read: there is none (7), or it has an error
 pub record NoItem {T : Type 0} (F : form.Ghosts T) (old new : ReaderState) (kind : ErrorKind) : Type 0 where
   pub reason : ((rest old ≡ []) × (kind ≡ Length Sequence)) ⊎ ((0 < length (rest old)) × Faults F.TAKES_MEMORY F.FAULTS_FIRST (unless_failed (F.parse old.rules) old) kind)
   pub reader : old.failed ≡ false → Refused old new kind

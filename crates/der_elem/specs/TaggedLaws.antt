@@ -21,7 +21,7 @@ use Rattle.der_elem.specs.Accepting.{Fits, BeginsWith, IsTlv, MayFollow, accepts
 pub contents_fit : (t : Tag) (c : List ℕ) → Fits (tlv t c) → Fits c
 contents_fit t c h = omega (arith, length-append (header_octets t (length c)) c)
 
--- an encoding is parsed so, whatever follows it
+-- an encoding is parsed by its contents octets, whatever follows it
 pub parse_tagged-tlv : (t : Tag) (parse : ContentsParse) (rules : EncodingRules) (p : ℕ) (c d x : List ℕ) → IsTag t → Fits (tlv t c) → ((p : ℕ) → parse rules p c ≡ Ok d) → parse_tagged t parse rules p (tlv t c ++ x) ≡ Ok (length (tlv t c), tlv t d)
 unfolding parse_tagged
 parse_tagged-tlv t parse rules p c d x is_tag fits parsed =
@@ -36,7 +36,7 @@ module _ {T : Type 0} (t : Tag) (is_tag : IsTag t) (accepts : EncodingRules → 
       let fits' : Fits (tlv t c) = subst Fits e fits in
       subst (λ b. parse_tagged t parse rules p (b ++ x) ≡ Ok (length b, tlv t (contents v))) (sym e) (parse_tagged-tlv t parse rules p c (contents v) x is_tag fits' (λ p. parse_of_accepted rules v p c a (contents_fit t c fits')))
 
--- the faults of an encoding are of its octets, where those of its contents octets are
+-- the errors of an encoding are in its octets, if those of its contents octets are
 module _ (t : Tag) (parse : ContentsParse) (of_octets : (rules : EncodingRules) (p : ℕ) (c : List ℕ) → IsOfOctets (parse rules p c)) where
   value_of_octets : (n : ℕ) (r : Result (List ℕ) ErrorKind) → IsOfOctets r → IsOfOctets (tagged_contents t n r)
   value_of_octets n (Ok contents) h = tt
@@ -59,11 +59,11 @@ pub begins_tagged : {T : Type 0} (t : Tag) (is_tag : IsTag t) (accepts : Encodin
 begins_tagged t is_tag accepts rules v z b (c, e, a) =
     record { tag = t; others = length_octets (length c) ++ c; octets_are = e ∙ append_assoc (identifier t) (length_octets (length c)) c; is_tag = is_tag; is_one = same_identifier-same t }
 
--- what is accepted has its tag, length and contents
+-- accepted octets have the tag, a length and contents
 pub tlv_tagged : {T : Type 0} (t : Tag) (accepts : EncodingRules → T → List ℕ → Type 0) (rules : EncodingRules) (v : T) (b : List ℕ) → accepts_tagged t accepts rules v b → IsTlv b
 tlv_tagged t accepts rules v b (c, e, a) = record { tag = t; contents = c; octets_are = e }
 
--- encodings of contents of one length are of one length
+-- encodings of contents of one length have one length
 pub length-tlv : (t : Tag) (c d : List ℕ) → length c ≡ length d → length (tlv t c) ≡ length (tlv t d)
 length-tlv t c d e =
     length-append (header_octets t (length c)) c ∙ ap (λ n. length (header_octets t n) + n) e ∙ sym (length-append (header_octets t (length d)) d)

@@ -1,11 +1,11 @@
-//! SEQUENCE OF with a fixed number of items, which is `[T; N]` (X.690 8.10).
+//! SEQUENCE OF with a fixed number of items: `[T; N]` (X.690 8.10).
 //!
 //! The tag is 30. The contents octets are the encodings of the items, one after another, so that
 //! `[true]` is encoded as 30 03 01 01 FF.
 //!
-//! Reading refuses with the first fault of an item, from the left, where there are fewer items (7),
-//! and after an item too many (`ErrorKind::Overlength`, 10), which is read first. It takes memory
-//! only where an item does.
+//! Reading refuses in three cases: an item has an error (the first from the left), there are
+//! fewer items (7), or there is an item too many (`ErrorKind::Overlength`, 10), which is read
+//! first. It takes memory only if an item does.
 
 ghost use Rattle.std.specs.Prelude.{flat_map, false, refl};
 ghost use Rattle.std.specs.List.{list_any};
@@ -115,7 +115,7 @@ impl<T: Form + Copy, const N: usize> CopyIsDuplicate for [T; N] {}
 /// Reads the next item of an array.
 ///
 /// # Errors
-/// `ErrorKind::Length` (7) where there is none; the item's.
+/// `ErrorKind::Length` (7) if there is none; the errors of the item.
 fn decode_item<'a, R: Source<'a>, T: Decode<'a, R>>(
     alloc: Global,
     reader: &mut R,
@@ -128,10 +128,10 @@ fn decode_item<'a, R: Source<'a>, T: Decode<'a, R>>(
     T::decode(alloc, reader)
 }
 
-/// Checks that there is no item more.
+/// Checks that there are no more items.
 ///
 /// # Errors
-/// The item's; `ErrorKind::Overlength` (10) for an item.
+/// The errors of the item; `ErrorKind::Overlength` (10) for an item.
 fn refuse_item<'a, R: Source<'a>, T: Decode<'a, R>>(
     alloc: Global,
     reader: &mut R,

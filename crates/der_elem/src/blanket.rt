@@ -65,8 +65,8 @@ impl<T: EncodeValue + Tagged> Encode for T {
 }
 
 impl<T: EncodeValue + Tagged + ValueOrd> DerOrd for T {
-    // A value that holds others is compared first and measured where it differs, so that none is measured
-    // before the one that differs; another has its length at once.
+    // A value that contains others is first compared, and measured only if it differs, so no
+    // value is measured before the one that differs. Any other value has its length at once.
     fn der_cmp(&self, other: &T) -> Result<Ordering, Error> {
         match self.tag().cmp(&other.tag()) {
             Ordering::Equal => {}
@@ -83,8 +83,8 @@ impl<T: EncodeValue + Tagged + ValueOrd> DerOrd for T {
     }
 }
 
-/// The order of the encodings of two values with one tag: none is measured where the contents octets are
-/// equal.
+/// Compares the encodings of two values with the same tag; neither is measured if their contents
+/// octets are equal.
 fn cmp_contents_first<T: EncodeValue + Tagged + ValueOrd>(
     value: &T,
     other: &T,

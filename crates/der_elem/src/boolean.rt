@@ -1,4 +1,4 @@
-//! BOOLEAN, which is `bool` (X.690 8.2, 11.1).
+//! BOOLEAN: `bool` (X.690 8.2, 11.1).
 //!
 //! The tag is 01. There is one contents octet, 00 for false and FF for true, so that `true` is
 //! encoded as 01 01 FF.
@@ -25,7 +25,7 @@ use crate::universal_tags::BooleanTag;
 use der_tlv::{BackWriter, Error, ErrorKind, Header, Length, Reader, Source, Tag, Writer};
 use std::alloc::Global;
 
-/// The truth value that contents octets represent, under DER: 00 is false, FF is true.
+/// Returns the truth value that contents octets represent, under DER: 00 is false, FF is true.
 ///
 /// # Errors
 /// `ErrorKind::Length` (7) unless there is one octet; `ErrorKind::Noncanonical` (8) for any octet

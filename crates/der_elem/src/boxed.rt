@@ -1,6 +1,6 @@
 //! `Box`, which is encoded as its value.
 //!
-//! Reading refuses with the value's faults, and then where memory runs out (1).
+//! Reading refuses with the errors of the value, and then if memory runs out (1).
 
 ghost use Rattle.std.specs.Prelude.{true, refl};
 ghost use Rattle.der_elem.specs.FormatMakers.{allocating, mapped_format};

@@ -7,7 +7,7 @@ ghost use Rattle.der_elem.specs.Contents.{ContentsRead, ContentsRefused};
 
 use der_tlv::{Error, Header, Reader, Source};
 
-/// Reads all of the octets that the reader shows, of which the header says how many there are.
+/// Reads all the octets that the reader shows; the header gives their number.
 ///
 /// # Errors
 /// `ErrorKind::Failed` (17) on a failed reader.

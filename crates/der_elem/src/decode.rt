@@ -16,14 +16,14 @@ pub trait DecodeValue<'a, R: Source<'a>>: FormValue {
     /// Whether reading the contents octets takes memory.
     const TAKES_MEMORY: bool;
 
-    /// Reads the value from all of the octets that the reader shows, of which the header says how
-    /// many there are.
+    /// Reads the value from all the octets that the reader shows; the header gives their number.
     ///
     /// # Errors
-    /// `ErrorKind::Failed` (17) on a failed reader; the first fault of the contents octets, in the
-    /// type's order; `ErrorKind::Memory` (1) where the type takes memory, of a type that finds every
-    /// fault first only for octets without one. Where the header says another length than the reader
-    /// shows, the value may be any, and a refusal leaves the reader as every other does.
+    /// `ErrorKind::Failed` (17) on a failed reader; the first error of the contents octets, in
+    /// the order of the type; `ErrorKind::Memory` (1) only if the type takes memory, and for a
+    /// type that finds every error first only if the octets have none. If the header gives
+    /// another length than the reader shows, the value may be any, and a refusal leaves the
+    /// reader as every other refusal does.
     fn decode_value(alloc: Global, reader: &mut R, header: Header) -> Result<Self, Error>
         ensures exact { length (rest (R.state reader.old)) ≡ header.length
             → DecodesValue Self.value header (R.state reader.old) (R.state reader.new) result }
@@ -39,12 +39,12 @@ pub trait Decode<'a, R: Source<'a>>: Form {
     /// Whether reading the encoding takes memory.
     const TAKES_MEMORY: bool;
 
-    /// Reads the value whose encoding stands at the reader's position.
+    /// Reads the value whose encoding is at the reader's position.
     ///
     /// # Errors
-    /// `ErrorKind::Failed` (17) on a failed reader; the first fault of the octets, in reading
-    /// order; `ErrorKind::Memory` (1) where the type takes memory, of a type that finds every fault
-    /// first only for octets without one.
+    /// `ErrorKind::Failed` (17) on a failed reader; the first error of the octets, in reading
+    /// order; `ErrorKind::Memory` (1) only if the type takes memory, and for a type that finds
+    /// every error first only if the octets have none.
     fn decode(alloc: Global, reader: &mut R) -> Result<Self, Error>
         ensures { Decodes Self.Form (R.state reader.old) (R.state reader.new) result };
 
@@ -53,13 +53,13 @@ pub trait Decode<'a, R: Source<'a>>: Form {
 
 /// Reading a value from octets that are its encoding and nothing else, under DER.
 pub trait FromDer<'a>: Form {
-    /// The value that these octets encode.
+    /// Returns the value that these octets encode.
     ///
     /// # Errors
-    /// `ErrorKind::Overflow` (9) for more than 4294967295 octets; the first fault of the octets, in
-    /// reading order; `ErrorKind::TrailingData` (3) where octets are left over;
-    /// `ErrorKind::Memory` (1) where the type takes memory, of a type that finds every fault first
-    /// only for octets that have no fault of the value.
+    /// `ErrorKind::Overflow` (9) for more than 4294967295 octets; the first error of the octets,
+    /// in reading order; `ErrorKind::TrailingData` (3) if octets are left over;
+    /// `ErrorKind::Memory` (1) only if the type takes memory, and for a type that finds every
+    /// error first only if the octets have no error of the value.
     fn from_der(alloc: Global, bytes: &'a [u8]) -> Result<Self, Error>
         ensures { ReadsAll Self.Form bytes.now result };
 }

@@ -17,10 +17,10 @@ pub trait Duplicate: Form {
     // whether copying takes memory
     ghost takes_memory_to_copy: { Bool };
 
-    /// A copy of the value.
+    /// Copies the value.
     ///
     /// # Errors
-    /// `ErrorKind::Memory` (1) where memory runs out.
+    /// `ErrorKind::Memory` (1) if memory runs out.
     fn duplicate(&self) -> Result<Self, Error>
         ensures ok { IfOk result (λ copy. is_copy self.now copy) }
         ensures kind { IfErr result (λ e. e.kind ≡ Memory) }
@@ -41,10 +41,10 @@ pub trait DuplicateValue: FormValue {
     // whether copying takes memory
     ghost takes_memory_to_copy_value: { Bool };
 
-    /// A copy of the value.
+    /// Copies the value.
     ///
     /// # Errors
-    /// `ErrorKind::Memory` (1) where memory runs out.
+    /// `ErrorKind::Memory` (1) if memory runs out.
     fn duplicate_value(&self) -> Result<Self, Error>
         ensures ok { IfOk result (λ copy. is_copy_value self.now copy) }
         ensures kind { IfErr result (λ e. e.kind ≡ Memory) }
@@ -94,12 +94,13 @@ impl<T: CopyIsDuplicate> DuplicateValue for T {
     ghost copy_re_reads_value = { λ v w e. ap T.value.re_reads e };
 }
 
-/// A type of which each copy is equal to its source.
+/// A type whose copies are equal to their sources.
 pub trait DuplicateIsEqual: Duplicate + PartialEq {
     ghost copy_is_equal: { (v w : Self) → Self.is_copy v w → IsTrue (Self.eq v w) };
 }
 
-/// The same of a type whose values are copied with their contents octets.
+/// A type whose values are copied with their contents octets, and whose copies are equal to their
+/// sources.
 pub trait DuplicateValueIsEqual: DuplicateValue + PartialEq {
     ghost copy_value_is_equal: { (v w : Self) → Self.is_copy_value v w → IsTrue (Self.eq v w) };
 }

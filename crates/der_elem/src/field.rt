@@ -1,8 +1,8 @@
-//! Fields of a SEQUENCE (X.690 8.9): values that are there, and values that may be absent.
+//! Fields of a SEQUENCE (X.690 8.9): values that are present, and values that may be absent.
 //!
-//! A field that may be absent (X.680 25, OPTIONAL) is told from what follows it by its tag: it is
-//! absent at the end of what the reader shows, and before a tag that none of its encodings begins
-//! with.
+//! A field that may be absent (X.680 25, OPTIONAL) is distinguished from what follows it by its
+//! tag: it is absent at the end of what the reader shows, and before a tag that none of its
+//! encodings begins with.
 
 ghost use Rattle.std.specs.Prelude.{◌≡◌, Option, Some, true, Bool};
 ghost use Rattle.der_tlv.specs.declared.tag.Tag.{Tag};
@@ -19,8 +19,8 @@ use crate::tag::{Choice, Tagged};
 use der_tlv::{Error, Reader, Source, Tag};
 use std::alloc::Global;
 
-/// Reading a field, which is told from what follows it: an absent one stands only at the end, or
-/// before a tag that is none of its.
+/// Reading a field, which is distinguished from what follows it: an absent field is only at the
+/// end, or before a tag that is none of its own.
 pub trait DecodeField<'a, R: Source<'a>>: Form {
     ghost TAKES_MEMORY: { Bool };
 
@@ -30,8 +30,8 @@ pub trait DecodeField<'a, R: Source<'a>>: Form {
     /// Reads the field at the reader's position.
     ///
     /// # Errors
-    /// As `Decode::decode`: the first fault of the field's octets; `ErrorKind::Failed` (17) on a
-    /// reader that has failed; `ErrorKind::Memory` (1) where the type takes memory.
+    /// As `Decode::decode`: the first error of the octets of the field; `ErrorKind::Failed` (17)
+    /// on a failed reader; `ErrorKind::Memory` (1) only if the type takes memory.
     fn decode_field(alloc: Global, reader: &mut R) -> Result<Self, Error>
         ensures { DecodesField Self.Form (R.state reader.old) (R.state reader.new) result };
 
@@ -70,9 +70,10 @@ impl<'a, R: Source<'a>, T: Decode<'a, R> + Choice> DecodeField<'a, R> for Option
     ghost takes_memory_is = { T.Decode.takes_memory_is };
 }
 
-/// The tag that a field's encoding begins with, by which it is told from other fields.
+/// The tag that the encoding of a field begins with, which distinguishes it from other fields.
 pub trait FirstTag: Form {
-    /// The tag that the encoding begins with; none where the field is absent and has no octets.
+    /// Returns the tag that the encoding begins with, or none if the field is absent and has no
+    /// octets.
     fn first_tag(&self) -> Option<Tag>
         ensures { result ≡ Self.first_tag_of self.now };
 

@@ -1,7 +1,8 @@
 //! Types whose encodings have one tag.
 //!
-//! Such a type names its tag by a type that stands for the tag ([`OneTag`]), and gets its form,
-//! reading and writing from that and from its contents octets. [`FixedTag`] has the tag as a constant.
+//! Such a type names a marker, a type that stands for its tag ([`OneTag`]). The marker and the
+//! contents octets give its form, its reading and its writing. [`FixedTag`] has the tag as a
+//! constant.
 
 ghost use Rattle.der_tlv.specs.declared.tag.Tag.{Tag};
 ghost use Rattle.der_tlv.specs.TagParts.{IsTag};

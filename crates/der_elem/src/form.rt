@@ -1,7 +1,8 @@
-//! What octets mean: the encodings of the values of a type, and which octets are read as which value.
+//! The meaning of octets: the encodings of the values of a type, and the values that octets are
+//! read as.
 //!
-//! These traits have no code but a constant. All traits that read, write or compare octets speak of
-//! the one meaning that they give.
+//! These traits have no code. All traits that read, write or compare octets refer to the one
+//! meaning that they give.
 
 ghost use Rattle.std.specs.Prelude.{◌≡◌, ℕ, ◌+◌, List, ◌∷◌, ◌++◌, length, Bool, true, Option, Some, Ok};
 ghost use Rattle.der_tlv.specs.declared.encoding_rules.EncodingRules.{EncodingRules};
@@ -17,14 +18,14 @@ ghost use Rattle.der_elem.specs.TaggedLaws.{parse_of_tagged, tagged_of_octets, b
 
 use crate::fixed_tag::OneTag;
 
-/// The contents octets that stand for a value, and which contents octets are read as it.
+/// The contents octets of a value, and the contents octets that are read as it.
 pub trait FormValue: Sized + Drop {
-    // what the contents octets mean
+    // the meaning of the contents octets
     ghost value: { ContentsFormat Self };
 }
 
-/// The whole encoding of a value, which has no octets for an absent option, and which octets are
-/// read as the value.
+/// The whole encoding of a value, and the octets that are read as the value. The encoding of an
+/// absent option has no octets.
 pub trait Form: Sized + Drop {
     // the one encoding of a value
     ghost encoding: { Self → List ℕ };
@@ -35,10 +36,10 @@ pub trait Form: Sized + Drop {
     // whether writing or comparing the value reads its items again, which takes memory
     ghost re_reads: { Self → Bool };
 
-    // under rules, the grammar: the value is read from exactly these octets
+    // the grammar under rules: the value is read from exactly these octets
     ghost accepts: { EncodingRules → Self → List ℕ → Type 0 };
 
-    // what parsing octets from the front comes to
+    // the result of parsing octets from the front
     ghost parse: { Parse };
 
     // the tags that its encodings begin with
@@ -53,7 +54,7 @@ pub trait Form: Sized + Drop {
     // whether reading takes memory
     ghost TAKES_MEMORY: { Bool };
 
-    // whether reading finds every fault of the octets before it takes memory
+    // whether reading finds every error in the octets before it takes memory
     ghost FAULTS_FIRST: { Bool };
 
     ghost parse_of_accepted: { (rules : EncodingRules) (v : Self) (p : ℕ) (b x : List ℕ)

@@ -1,4 +1,4 @@
-//! The items of lists and arrays, whose encodings stand one after another (X.690 8.10).
+//! The items of lists and arrays, whose encodings follow one another (X.690 8.10).
 
 ghost use Rattle.std.specs.Prelude.{◌≡◌, flat_map, IfOk, IfErr};
 ghost use Rattle.std.specs.List.{list_any};
@@ -16,11 +16,11 @@ use der_tlv::{BackWriter, Error, ErrorKind, Length, Writer};
 use std::alloc::Global;
 use std::cmp::Ordering;
 
-/// How many octets the encodings of the items have.
+/// Returns the number of octets of the encodings of the items.
 ///
 /// # Errors
-/// `ErrorKind::Overflow` (9) where there are more than 4294967295; `ErrorKind::Memory` (1) where an
-/// item reads its items again.
+/// `ErrorKind::Overflow` (9) if there are more than 4294967295; `ErrorKind::Memory` (1) if an
+/// item reads its items again and memory runs out.
 pub fn items_len<T: Encode>(items: &[T]) -> Result<Length, Error>
     ensures { Measures (flat_map T.encoding items.now) (list_any T.re_reads items.now) result }
 {
@@ -34,8 +34,9 @@ pub fn items_len<T: Encode>(items: &[T]) -> Result<Length, Error>
 /// Writes the encodings of the items, in their order.
 ///
 /// # Errors
-/// The writer's; `ErrorKind::Overflow` (9) where one has more than 4294967295 octets;
-/// `ErrorKind::Memory` (1) where an item reads its items again.
+/// The errors of the writer; `ErrorKind::Overflow` (9) if an item has more than
+/// 4294967295 octets; `ErrorKind::Memory` (1) if an item reads its items again and memory runs
+/// out.
 pub fn encode_items<T: Encode, W: Writer>(items: &[T], writer: &mut W) -> Result<(), Error>
     ensures { Encodes (flat_map T.encoding items.now) (list_any T.re_reads items.now)
         (W.state writer.old) (W.state writer.new) result }
@@ -46,10 +47,10 @@ pub fn encode_items<T: Encode, W: Writer>(items: &[T], writer: &mut W) -> Result
     Ok(())
 }
 
-/// Writes the encodings of the items before those that the writer holds, from the last.
+/// Writes the encodings of the items before what the writer holds, from the last item.
 ///
 /// # Errors
-/// `ErrorKind::Memory` (1) where an item reads its items again.
+/// `ErrorKind::Memory` (1) if an item reads its items again and memory runs out.
 pub fn encode_items_back<T: Encode, W: BackWriter>(items: &[T], writer: &mut W) -> Result<(), Error>
     requires { HasRoom (flat_map T.encoding items.now) (W.state writer.old) }
     ensures { PutsBack (flat_map T.encoding items.now) (list_any T.re_reads items.now)
@@ -63,7 +64,7 @@ pub fn encode_items_back<T: Encode, W: BackWriter>(items: &[T], writer: &mut W) 
     Ok(())
 }
 
-/// The lexicographic order of the joined encodings: the first pair of items that differs decides,
+/// Compares the joined encodings lexicographically: the first pair of items that differs decides,
 /// else the number of items.
 ///
 /// # Errors
@@ -81,10 +82,10 @@ pub fn cmp_items<T: DerOrd + Tagged>(items: &[T], others: &[T]) -> Result<Orderi
     Ok(items.len().cmp(&others.len()))
 }
 
-/// Copies of the items.
+/// Copies the items.
 ///
 /// # Errors
-/// `ErrorKind::Memory` (1) where memory runs out.
+/// `ErrorKind::Memory` (1) if memory runs out.
 pub(crate) fn duplicate_items<T: Duplicate>(alloc: Global, items: &[T]) -> Result<Vec<T>, Error>
     ensures ok { IfOk result (λ copies. AreCopies T.is_copy items.now copies.items) }
     ensures kind { IfErr result (λ e. e.kind ≡ Memory) }

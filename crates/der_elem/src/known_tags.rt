@@ -1,4 +1,4 @@
-//! The tags of a type, where they are known before any value.
+//! The tags of a type, if they are known before any value.
 
 ghost use Rattle.std.specs.Prelude.{◌≡◌, List, ◌∷◌, [], Bool, true, false, Option, Some, refl};
 ghost use Rattle.der_tlv.specs.declared.tag.Tag.{Tag};
@@ -10,9 +10,9 @@ use crate::fixed_tag::OneTag;
 use crate::form::{Form, FormValue};
 
 /// The tags that the encodings of a type begin with, and whether a value may have no octets, as
-/// data: so tags of two types are told to be distinct (X.680 25.6) by computing.
+/// data. So a computation shows that the tags of two types are distinct (X.680 25.6).
 pub trait KnownTags: Form {
-    // the tags that its encodings may begin with; none where any tag may
+    // the tags that its encodings may begin with; none if any tag may
     ghost known_tags: { Option (List Tag) };
 
     // whether a value may have no octets

@@ -1,6 +1,6 @@
 //! Whether reading takes memory: the constant `TAKES_MEMORY`.
 //!
-//! Where it is false, reading never refuses with (1). A type says it where it is read, in
+//! If it is false, reading never refuses with (1). A type sets it in its
 //! [`DecodeValue`](crate::DecodeValue) or [`Decode`].
 
 ghost use Rattle.std.specs.Prelude.{Bool};
@@ -8,11 +8,11 @@ ghost use Rattle.std.specs.Prelude.{Bool};
 use crate::decode::Decode;
 use der_tlv::SliceReader;
 
-/// The constant that says whether reading takes memory, of every type that is read.
+/// The constant that says whether reading takes memory, for every type that is read.
 pub trait TakesMemory<'a> {
     ghost TAKES_MEMORY: { Bool };
 
-    /// Whether reading takes memory: where it is false, no reading refuses with
+    /// Whether reading takes memory: if it is false, no reading refuses with
     /// `ErrorKind::Memory` (1).
     const TAKES_MEMORY: bool;
 }

@@ -1,11 +1,11 @@
-//! OPTIONAL, which is `Option` (X.690 8.9.3).
+//! OPTIONAL: `Option` (X.690 8.9.3).
 //!
-//! A value has its own encoding, and an absent one no octets, so that `Some(5)` is encoded as
-//! 02 01 05.
+//! A present value has its own encoding, and an absent value has no octets, so that `Some(5)` is
+//! encoded as 02 01 05.
 //!
-//! Reading refuses with the faults of the next tag. Where that is none of the value's tags, and where
-//! no octet is left, there is no value; else reading refuses with the value's faults. An absent value
-//! is less than any other.
+//! Reading refuses with the errors of the next tag. If that tag is none of the value's tags, or
+//! if no octet is left, there is no value; else reading refuses with the errors of the value. An
+//! absent value is less than any other.
 
 ghost use Rattle.der_elem.specs.Options.{first_tag_option, encoding_option, comparable_option, test_option, accepts_option, readable_option, is_copy_option, parse_option};
 ghost use Rattle.der_elem.specs.OptionLaws.{begins_first_option, option_of_octets, parse_of_option, begins_option, same_length_option, accepts_option_encoding, readable_of_option, comparable_of_option, re_reads_option, copy_is_equal_option, copy_encoding_option, copy_comparable_option, copy_re_reads_option, encoding_eq_option};

@@ -10,23 +10,24 @@ use std::cmp::Ordering;
 
 /// The order of contents octets.
 pub trait ValueOrd: FormValue {
-    /// The lexicographic order of the contents octets of two values.
+    /// Compares the contents octets of two values lexicographically.
     ///
     /// # Errors
-    /// `ErrorKind::Overflow` (9) where one has more than 4294967295 octets, `ErrorKind::Value` (13)
-    /// where the two are not comparable, `ErrorKind::Memory` (1) where one reads items again.
+    /// `ErrorKind::Overflow` (9) if one has more than 4294967295 octets, `ErrorKind::Value` (13)
+    /// if the two are not comparable, `ErrorKind::Memory` (1) if one reads items again and memory
+    /// runs out.
     fn value_cmp(&self, other: &Self) -> Result<Ordering, Error>
         ensures { ComparesValues Self.value self.now other.now result };
 }
 
 /// The order of encodings.
 pub trait DerOrd: Form {
-    /// The lexicographic order of the encodings of two values.
+    /// Compares the encodings of two values lexicographically.
     ///
     /// # Errors
-    /// `ErrorKind::Overflow` (9) where one has more than 4294967295 octets, `ErrorKind::Value` (13)
-    /// where the two are not comparable and their headers are equal, `ErrorKind::Memory` (1) where
-    /// one reads items again.
+    /// `ErrorKind::Overflow` (9) if one has more than 4294967295 octets, `ErrorKind::Value` (13)
+    /// if the two are not comparable and their headers are equal, `ErrorKind::Memory` (1) if one
+    /// reads items again and memory runs out.
     fn der_cmp(&self, other: &Self) -> Result<Ordering, Error>
         ensures { Compares Self.Form self.now other.now result };
 }

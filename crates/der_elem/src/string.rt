@@ -1,8 +1,8 @@
-//! UTF8String, which is `String` (X.690 8.23).
+//! UTF8String: `String` (X.690 8.23).
 //!
 //! The tag is 0C, and the contents octets are the text in UTF-8: `hi` is encoded as 0C 02 68 69.
 //!
-//! Reading refuses octets that are not UTF-8 (12), and then where memory runs out (1).
+//! Reading refuses octets that are not UTF-8 (12), and then refuses if memory runs out (1).
 
 ghost use Rattle.std.specs.Prelude.{◌≡◌, true, refl};
 ghost use Rattle.std.proofs.Common.{sym};
@@ -38,7 +38,7 @@ impl<'a, R: Source<'a>> DecodeValue<'a, R> for String {
     const TAKES_MEMORY: bool = true;
 
     /// # Errors
-    /// (17) on a failed reader; octets that are not UTF-8 (12); else (1) where memory runs out.
+    /// (17) on a failed reader; octets that are not UTF-8 (12); else (1) if memory runs out.
     fn decode_value(alloc: Global, reader: &mut R, header: Header) -> Result<String, Error> {
         let octets = read_contents(reader, header)?;
         match text_of(octets) {

@@ -18,7 +18,7 @@ use der_tlv::Tag;
 pub trait Tagged: FormValue + Form {
     ghost tag_of: { Self → Tag };
 
-    /// The tag of the value's encoding.
+    /// Returns the tag of the value's encoding.
     fn tag(&self) -> Tag
         ensures value { result ≡ tag_of self.now }
         ensures bounded { IsTag (tag_of self.now) };
@@ -57,9 +57,10 @@ impl<T: FormValue + OneTag> Tagged for T {
     ghost comparable_alike = { λ v w h. h };
 }
 
-/// A type whose values are told from others by their tags: each encoding begins with one.
+/// A type whose values are distinguished from others by their tags: each encoding begins with a
+/// tag.
 pub trait Choice: Form {
-    /// Whether an encoding of a value of the type may begin with this tag.
+    /// Returns whether an encoding of a value of the type may begin with this tag.
     fn can_decode(tag: Tag) -> bool
         ensures { result ≡ Self.tags tag };
 

@@ -1,8 +1,8 @@
-//! NULL, which is `()` (X.690 8.8).
+//! NULL: `()` (X.690 8.8).
 //!
 //! The tag is 05. There are no contents octets, so that `()` is encoded as 05 00.
 //!
-//! Reading refuses contents of any octets (7).
+//! Reading refuses any contents octets (7).
 
 ghost use Rattle.std.specs.Prelude.{true, refl, false};
 ghost use Rattle.der_tlv.specs.declared.tag.Tag.TheVariants.{Null};

@@ -7,7 +7,7 @@ ghost use Rattle.der_tlv.specs.declared.error.ErrorKind.TheVariants.{Utf8};
 use der_tlv::ErrorKind;
 use std::str;
 
-/// The text that octets are.
+/// Returns the text of the octets.
 ///
 /// # Errors
 /// `ErrorKind::Utf8` (12) for octets that are not UTF-8.

@@ -1,9 +1,9 @@
-//! SEQUENCE OF, which is `Vec` (X.690 8.10).
+//! SEQUENCE OF: `Vec` (X.690 8.10).
 //!
 //! The tag is 30. The contents octets are the encodings of the items, one after another, so that
 //! the INTEGERs 1 and 200 are encoded as 30 07 02 01 01 02 02 00 C8.
 //!
-//! Reading refuses with the first fault of an item, from the left, and where memory runs out (1).
+//! Reading refuses with the first error of an item, from the left, and if memory runs out (1).
 //! The first pair of items that differs decides the order of two lists, else the number of items.
 
 ghost use Rattle.std.specs.Prelude.{flat_map, true, false, refl};

@@ -1,5 +1,5 @@
-//! The contents octets of INTEGER (X.690 8.3) at the front of a block of eight octets, of which the
-//! others say nothing.
+//! The contents octets of INTEGER (X.690 8.3) at the front of a block of eight octets. The other
+//! octets of the block have no meaning.
 
 ghost use Rattle.std.specs.Prelude.{◌≡◌, false, cond, ◌-◌, ◌^◌, ◌<◌, ◌≤◌, slice_index, take};
 ghost use Rattle.der_elem.specs.IntegerReading.{ReadsSigned, ReadsUnsigned};
@@ -9,7 +9,7 @@ use super::octets::{fits_unsigned, is_negative, is_redundant, signed_value};
 use super::reading::has_needless_zero;
 use der_tlv::{ErrorKind, Tag};
 
-// The number, with each bit inverted where the flag is set.
+// Returns the number, with each bit inverted if the flag is set.
 #[inline(always)]
 fn inverted_if(negative: bool, number: u64) -> u64
     ensures { result ≡ cond negative (2 ^ 64 - 1 - number) number }
@@ -17,7 +17,8 @@ fn inverted_if(negative: bool, number: u64) -> u64
     if negative { !number } else { number }
 }
 
-/// The big-endian number of the first octets of a block, each inverted where the flag is set.
+/// Returns the big-endian number of the first octets of a block, each inverted if the flag is
+/// set.
 #[inline(always)]
 fn front_magnitude(block: [u8; 8], len: usize, negative: bool) -> u64
     requires some { 0 < len }
@@ -27,7 +28,7 @@ fn front_magnitude(block: [u8; 8], len: usize, negative: bool) -> u64
     inverted_if(negative, u64::from_be_bytes(block)) >> (8 * (8 - len))
 }
 
-/// The integer that the first octets of a block are the two's complement of.
+/// Returns the integer whose two's complement the first octets of a block are.
 #[inline(always)]
 fn decode_front(block: [u8; 8], len: usize, width: usize) -> i128
     requires some { 0 < len }
@@ -42,7 +43,7 @@ fn decode_front(block: [u8; 8], len: usize, width: usize) -> i128
     signed_value(u128::from(front_magnitude(block, len, negative)), negative)
 }
 
-/// The number that the first octets of a block are.
+/// Returns the number that the first octets of a block represent.
 #[inline(always)]
 fn decode_front_unsigned(block: [u8; 8], len: usize, width: usize) -> u128
     requires some { 0 < len }
@@ -56,7 +57,7 @@ fn decode_front_unsigned(block: [u8; 8], len: usize, width: usize) -> u128
     u128::from(front_magnitude(block, len, false))
 }
 
-/// The integer that the first octets of a block represent, at a width of up to 16 octets.
+/// Returns the integer that the first octets of a block represent, at a width of up to 16 octets.
 ///
 /// # Errors
 /// As `signed_of`.
@@ -76,7 +77,7 @@ pub fn signed_front(block: [u8; 8], len: usize, width: usize) -> Result<i128, Er
     Ok(decode_front(block, len, width))
 }
 
-/// The number that the first octets of a block represent, at a width of up to 16 octets.
+/// Returns the number that the first octets of a block represent, at a width of up to 16 octets.
 ///
 /// # Errors
 /// As `unsigned_of`.

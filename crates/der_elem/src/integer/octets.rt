@@ -1,6 +1,6 @@
-//! The contents octets of INTEGER (X.690 8.3), at integers of up to 128 bits.
+//! The contents octets of INTEGER (X.690 8.3), for integers of up to 128 bits.
 //!
-//! An integer z is handled as a sign and a magnitude: z itself where it is not negative, and else
+//! An integer z is handled as a sign and a magnitude: z itself if it is not negative, else
 //! -1 - z.
 
 ghost use Rattle.std.specs.Prelude.{◌≡◌, ◌↔◌, IsTrue, ◌+◌, ◌*◌, ◌^◌, ◌-◌, ◌<◌, ◌≤◌, false, cond, nat_le, length, slice_index};
@@ -10,8 +10,8 @@ ghost use Rattle.der_elem.specs.Integer.{big_endian_number, natural_contents, co
 use std::cmp::Ordering;
 use std::marker::Model;
 
-/// Whether the first nine bits of contents octets are the same, so that the first octet says
-/// nothing (X.690 8.3.2).
+/// Returns whether the first nine bits of contents octets are the same, so that the first octet
+/// is redundant (X.690 8.3.2).
 pub fn is_redundant(bytes: &[u8]) -> bool
     ensures { result ≡ is_redundant bytes.now }
 {
@@ -22,7 +22,7 @@ pub fn is_redundant(bytes: &[u8]) -> bool
     }
 }
 
-/// Whether bit 8 of the first contents octet, the sign, is set.
+/// Returns whether bit 8 of the first contents octet, the sign, is set.
 pub fn is_negative(bytes: &[u8]) -> bool
     requires { 0 < length bytes.now }
     ensures { result ≡ nat_le 128 (slice_index bytes.now 0) }
@@ -30,14 +30,14 @@ pub fn is_negative(bytes: &[u8]) -> bool
     bytes[0] >= 0x80
 }
 
-// The octet, with each bit inverted where the flag is set.
+// Returns the octet, with each bit inverted if the flag is set.
 fn inverted_if(negative: bool, octet: u8) -> u8
     ensures { result ≡ cond negative (255 - octet) octet }
 {
     if negative { !octet } else { octet }
 }
 
-/// The big-endian number of the octets, each inverted where the flag is set.
+/// Returns the big-endian number of the octets, each inverted if the flag is set.
 pub fn magnitude(bytes: &[u8], negative: bool) -> u128
     requires { big_endian_number (complement_octets_if negative bytes.now) < 2 ^ 128 }
     ensures { result ≡ big_endian_number (complement_octets_if negative bytes.now) }
@@ -52,7 +52,8 @@ pub fn magnitude(bytes: &[u8], negative: bool) -> u128
     number
 }
 
-/// The same of octets that 64 bits can hold, which take less time.
+/// Returns the big-endian number of octets whose number fits 64 bits, each inverted if the flag
+/// is set. This takes less time.
 #[inline(always)]
 fn short_magnitude(bytes: &[u8], negative: bool) -> u64
     requires { big_endian_number (complement_octets_if negative bytes.now) < 2 ^ 64 }
@@ -65,7 +66,7 @@ fn short_magnitude(bytes: &[u8], negative: bool) -> u64
     number
 }
 
-/// The integer that has the magnitude and the sign.
+/// Returns the integer with this magnitude and this sign.
 pub fn signed_value(magnitude: u128, negative: bool) -> i128
     requires { magnitude < 2 ^ 127 }
     ensures { result ≡ complement_if negative magnitude }
@@ -74,7 +75,8 @@ pub fn signed_value(magnitude: u128, negative: bool) -> i128
     if negative { !number } else { number }
 }
 
-/// The integer that contents octets are the two's complement of, at a width of up to 16 octets.
+/// Returns the integer whose two's complement the contents octets are, at a width of up to
+/// 16 octets.
 pub fn decode_signed(bytes: &[u8], width: usize) -> i128
     requires some { 0 < length bytes.now }
     requires within { length bytes.now ≤ width }
@@ -88,7 +90,7 @@ pub fn decode_signed(bytes: &[u8], width: usize) -> i128
     signed_value(magnitude(bytes, negative), negative)
 }
 
-/// The number that contents octets are, at a width of up to 16 octets.
+/// Returns the number that contents octets represent, at a width of up to 16 octets.
 pub fn decode_unsigned(bytes: &[u8], width: usize) -> u128
     requires some { 0 < length bytes.now }
     requires positive { slice_index bytes.now 0 < 128 }
@@ -102,7 +104,7 @@ pub fn decode_unsigned(bytes: &[u8], width: usize) -> u128
     magnitude(bytes, false)
 }
 
-/// Whether contents octets that are not negative are a number of at most `width` octets.
+/// Returns whether contents octets that are not negative are a number of at most `width` octets.
 pub fn fits_unsigned(bytes: &[u8], width: usize) -> bool
     ensures value { result ≡ fits_unsigned width bytes.now }
     ensures decides { IsTrue result ↔ FitsUnsignedOctets width bytes.now }

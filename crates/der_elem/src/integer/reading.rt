@@ -13,7 +13,7 @@ use super::octets::{decode_signed, decode_unsigned, fits_unsigned, is_negative, 
 use crate::contents::read_contents;
 use der_tlv::{Error, ErrorKind, Header, Reader, Source, Tag};
 
-/// Whether a first octet 00 stands before an octet below 80 (X.690 8.3.2).
+/// Returns whether a first octet 00 is before an octet below 80 (X.690 8.3.2).
 pub(super) fn has_needless_zero(bytes: &[u8]) -> bool
     ensures { result ≡ has_needless_zero bytes.now }
 {
@@ -23,10 +23,10 @@ pub(super) fn has_needless_zero(bytes: &[u8]) -> bool
     }
 }
 
-/// The integer that contents octets represent, at a width of up to 16 octets.
+/// Returns the integer that contents octets represent, at a width of up to 16 octets.
 ///
 /// # Errors
-/// In this order: no octets (`ErrorKind::Length`, 7); more than the width
+/// In this order: no octets (`ErrorKind::Length`, 7); more octets than the width
 /// (`ErrorKind::Noncanonical`, 8); a redundant first octet (`ErrorKind::Noncanonical`, 8).
 pub fn signed_of(bytes: &[u8], width: usize) -> Result<i128, ErrorKind>
     requires some { 0 < width }
@@ -42,13 +42,13 @@ pub fn signed_of(bytes: &[u8], width: usize) -> Result<i128, ErrorKind>
     Ok(decode_signed(bytes, width))
 }
 
-/// The number that contents octets represent, at a width of up to 16 octets.
+/// Returns the number that contents octets represent, at a width of up to 16 octets.
 ///
 /// # Errors
-/// In this order: no octets (`ErrorKind::Length`, 7); more than the width and one
-/// (`ErrorKind::Noncanonical`, 8); a 00 before an octet below 80 (`ErrorKind::Noncanonical`, 8); a
-/// negative number (`ErrorKind::Value`, 13); one octet more than the width, of which the first is
-/// not 00 (`ErrorKind::Length`, 7).
+/// In this order: no octets (`ErrorKind::Length`, 7); more octets than the width plus one
+/// (`ErrorKind::Noncanonical`, 8); a 00 before an octet below 80 (`ErrorKind::Noncanonical`, 8);
+/// a negative number (`ErrorKind::Value`, 13); one octet more than the width, with a first octet
+/// that is not 00 (`ErrorKind::Length`, 7).
 pub fn unsigned_of(bytes: &[u8], width: usize) -> Result<u128, ErrorKind>
     requires some { 0 < width }
     requires most { width ≤ 16 }
@@ -69,8 +69,8 @@ pub fn unsigned_of(bytes: &[u8], width: usize) -> Result<u128, ErrorKind>
     Ok(decode_unsigned(bytes, width))
 }
 
-/// Reads all of at most eight octets that the reader shows, of which the header says how many there
-/// are, into the front of a block.
+/// Reads all the octets that the reader shows, at most eight, into the front of a block; the
+/// header gives their number.
 ///
 /// # Errors
 /// `ErrorKind::Failed` (17) on a failed reader.
@@ -86,7 +86,7 @@ fn read_front_contents<'a, R: Source<'a>>(reader: &mut R, header: Header) -> Res
     reader.read_front(header.length)
 }
 
-/// Reads the integer from all of at most eight contents octets, in one block.
+/// Reads the integer from all the contents octets, at most eight, in one block.
 ///
 /// # Errors
 /// As `read_signed`.
@@ -116,12 +116,12 @@ fn read_short_signed<'a, R: Source<'a>>(
     }
 }
 
-/// Reads the integer from all of the contents octets, at a width of up to 16 octets.
+/// Reads the integer from all the contents octets, at a width of up to 16 octets.
 ///
 /// # Errors
 /// `ErrorKind::Failed` (17) on a failed reader. Else, in this order: no octets
-/// (`ErrorKind::Length`, 7); more than the width (`ErrorKind::Noncanonical`, 8); a redundant first
-/// octet (`ErrorKind::Noncanonical`, 8).
+/// (`ErrorKind::Length`, 7); more octets than the width (`ErrorKind::Noncanonical`, 8); a
+/// redundant first octet (`ErrorKind::Noncanonical`, 8).
 #[inline(always)]
 pub fn read_signed<'a, R: Source<'a>>(
     reader: &mut R,
@@ -146,7 +146,7 @@ pub fn read_signed<'a, R: Source<'a>>(
     }
 }
 
-/// Reads the number from all of at most eight contents octets, in one block.
+/// Reads the number from all the contents octets, at most eight, in one block.
 ///
 /// # Errors
 /// As `read_unsigned`.
@@ -176,13 +176,13 @@ fn read_short_unsigned<'a, R: Source<'a>>(
     }
 }
 
-/// Reads the number from all of the contents octets, at a width of up to 16 octets.
+/// Reads the number from all the contents octets, at a width of up to 16 octets.
 ///
 /// # Errors
 /// `ErrorKind::Failed` (17) on a failed reader. Else, in this order: no octets
-/// (`ErrorKind::Length`, 7); more than the width and one (`ErrorKind::Noncanonical`, 8); a 00
-/// before an octet below 80 (`ErrorKind::Noncanonical`, 8); a negative number
-/// (`ErrorKind::Value`, 13); one octet more than the width, of which the first is not 00
+/// (`ErrorKind::Length`, 7); more octets than the width plus one (`ErrorKind::Noncanonical`, 8);
+/// a 00 before an octet below 80 (`ErrorKind::Noncanonical`, 8); a negative number
+/// (`ErrorKind::Value`, 13); one octet more than the width, with a first octet that is not 00
 /// (`ErrorKind::Length`, 7).
 #[inline(always)]
 pub fn read_unsigned<'a, R: Source<'a>>(

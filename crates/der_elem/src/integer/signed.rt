@@ -1,7 +1,8 @@
 //! The signed machine integers, `i8` to `i128`.
 //!
-//! Reading refuses, in this order: no contents octets (7); more than the type has (8); a first
-//! octet 00 before one below 80, or FF before one of 80 or more (`ErrorKind::Noncanonical`, 8).
+//! Reading refuses, in this order: no contents octets (7); more octets than the type has (8); a
+//! first octet 00 before one below 80, or FF before one of 80 or more (`ErrorKind::Noncanonical`,
+//! 8).
 
 ghost use Rattle.std.proofs.Common.{lit<, false};
 ghost use Rattle.std.specs.Ordering.{int_eq};

@@ -1,9 +1,9 @@
 //! The unsigned machine integers, `u8` to `u128`.
 //!
-//! Reading refuses, in this order: no contents octets (7); more than the type has and one (8); a
-//! first octet 00 before one below 80 (`ErrorKind::Noncanonical`, 8); a first octet of 80 or more,
-//! which makes the number negative (`ErrorKind::Value`, 13); one octet more than the type has, of
-//! which the first is 01 to 7F (`ErrorKind::Length`, 7).
+//! Reading refuses, in this order: no contents octets (7); more octets than the type has plus one
+//! (8); a first octet 00 before one below 80 (`ErrorKind::Noncanonical`, 8); a first octet of 80
+//! or more, which makes the number negative (`ErrorKind::Value`, 13); one octet more than the
+//! type has, with a first octet of 01 to 7F (`ErrorKind::Length`, 7).
 
 ghost use Rattle.std.specs.Prelude.{nat_eq, refl, false};
 ghost use Rattle.std.proofs.lemmas.Bool.Decides.{Decides-eqb};

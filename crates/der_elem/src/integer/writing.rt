@@ -1,4 +1,4 @@
-//! The contents octets of machine integers (X.690 8.3), written: the last octets of the big-endian
+//! Writing the contents octets of machine integers (X.690 8.3): the last octets of the big-endian
 //! form.
 
 ghost use Rattle.std.specs.Prelude.{◌≡◌, ◌≤◌, ◌<◌, ◌^◌, false, length};
@@ -10,7 +10,8 @@ ghost use Rattle.der_elem.specs.Integer.{natural_contents, integer_contents};
 use super::ordering::LEAST_LONG;
 use der_tlv::{BackWriter, Error, Writer};
 
-/// The sign and the magnitude of an integer: `(n, false)` for n, and `(n, true)` for -1 - n.
+/// Returns the magnitude and the sign of an integer: `(n, false)` for n, and `(n, true)` for
+/// -1 - n.
 fn signed_parts(number: i128) -> (u128, bool)
     ensures value { complement_if result.1 result.0 ≡ number }
     ensures bound { result.0 < 2 ^ 127 }
@@ -22,7 +23,7 @@ fn signed_parts(number: i128) -> (u128, bool)
     }
 }
 
-/// How many contents octets a number that is not negative has.
+/// Returns the number of contents octets of a number that is not negative.
 pub fn unsigned_len(number: u128) -> u32
     ensures len { result ≡ length (natural_contents number) }
     ensures some { 0 < result }
@@ -31,7 +32,7 @@ pub fn unsigned_len(number: u128) -> u32
     (u128::BITS - number.leading_zeros()) / 8 + 1
 }
 
-/// How many contents octets an integer has.
+/// Returns the number of contents octets of an integer.
 pub fn signed_len(number: i128) -> u32
     ensures len { result ≡ length (integer_contents number) }
     ensures some { 0 < result }
@@ -41,10 +42,10 @@ pub fn signed_len(number: i128) -> u32
     unsigned_len(magnitude)
 }
 
-/// Writes the contents octets of an integer: by one block of eight octets where 64 bits do.
+/// Writes the contents octets of an integer: in one block of eight octets if 64 bits are enough.
 ///
 /// # Errors
-/// The writer's.
+/// The errors of the writer.
 #[inline(always)]
 pub fn write_signed<W: Writer>(writer: &mut W, number: i128) -> Result<(), Error>
     ensures { Encodes (integer_contents number) false (W.state writer.old)
@@ -58,10 +59,10 @@ pub fn write_signed<W: Writer>(writer: &mut W, number: i128) -> Result<(), Error
     writer.write_front(front.to_be_bytes(), len)
 }
 
-/// Writes the contents octets of an integer: the last of its 16 octets.
+/// Writes the contents octets of an integer, which are the last of its 16 octets.
 ///
 /// # Errors
-/// The writer's.
+/// The errors of the writer.
 #[inline(never)]
 fn write_wide<W: Writer>(writer: &mut W, number: i128) -> Result<(), Error>
     ensures { Encodes (integer_contents number) false (W.state writer.old)
@@ -72,7 +73,7 @@ fn write_wide<W: Writer>(writer: &mut W, number: i128) -> Result<(), Error>
     writer.write(&octets[16 - len..])
 }
 
-/// The big-endian form of a number that is not negative, with an octet 00 in front.
+/// Returns the big-endian form of a number that is not negative, with an octet 00 in front.
 pub fn unsigned_octets(number: u128) -> [u8; 17]
     ensures { result ≡ bytes_high_first 17 number }
 {
@@ -84,7 +85,7 @@ pub fn unsigned_octets(number: u128) -> [u8; 17]
 /// Writes the contents octets of a number that is not negative.
 ///
 /// # Errors
-/// The writer's.
+/// The errors of the writer.
 pub fn write_unsigned<W: Writer>(writer: &mut W, number: u128) -> Result<(), Error>
     ensures { Encodes (natural_contents number) false (W.state writer.old)
         (W.state writer.new) result }
@@ -96,7 +97,7 @@ pub fn write_unsigned<W: Writer>(writer: &mut W, number: u128) -> Result<(), Err
     writer.write(&octets[17 - unsigned_len(number) as usize..])
 }
 
-/// Puts the contents octets of an integer: by one block of eight octets where 64 bits do.
+/// Puts the contents octets of an integer: in one block of eight octets if 64 bits are enough.
 #[inline(always)]
 pub fn put_signed<W: BackWriter>(writer: &mut W, number: i128)
     requires { length (integer_contents number) ≤ (W.state writer.old).back.room }
@@ -109,7 +110,7 @@ pub fn put_signed<W: BackWriter>(writer: &mut W, number: i128)
     writer.put_end(short.cast_unsigned().to_be_bytes(), len);
 }
 
-/// Puts the contents octets of an integer: the last of its 16 octets.
+/// Puts the contents octets of an integer, which are the last of its 16 octets.
 #[inline(never)]
 fn put_wide<W: BackWriter>(writer: &mut W, number: i128)
     requires { length (integer_contents number) ≤ (W.state writer.old).back.room }

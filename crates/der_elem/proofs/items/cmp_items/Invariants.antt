@@ -4,7 +4,7 @@ use Rattle.std.specs.Ordering.{on}
 use Rattle.der_tlv.specs.Octets.{lex}
 use Rattle.der_elem.proofs.items.cmp_items.Given as goal
 
--- what is left decides
+-- the remaining pairs decide
 abbrev pub invariant-items : goal.invariant-items
 invariant-items g l =
     slice_cmp (on g.T.Form.encoding lex) l.items l.others ≡ slice_cmp (on g.T.Form.encoding lex) (drop l.i l.items) (drop l.i l.others)
