@@ -26,8 +26,8 @@ use std::cmp::Ordering;
 
 /// The named bits of a BIT STRING, borrowed, without bits at the end that are 0.
 ///
-/// In a KeyUsage (RFC 5280, 4.2.1.3) keyCertSign (5) and cRLSign (6) are encoded as 03 02 01 06, and
-/// decipherOnly (8) with keyAgreement (4) and others as two octets.
+/// In a KeyUsage (RFC 5280, 4.2.1.3) keyCertSign (5) and cRLSign (6) are encoded as 03 02 01 06,
+/// and decipherOnly (8) with keyAgreement (4) and others as two octets.
 ///
 /// # Errors
 /// Decoding fails with the errors of a BIT STRING: on no contents octets (`ErrorKind::Overflow`,
