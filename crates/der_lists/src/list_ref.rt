@@ -1,7 +1,7 @@
 //! SEQUENCE OF, borrowed, which is `ListRef` (X.690 8.10).
 //!
-//! The tag is 30. The contents octets are the encodings of the items, one after another, so that the
-//! INTEGERs 8 and 7 are encoded as 30 06 02 01 08 02 01 07.
+//! The tag is 30. The contents octets are the encodings of the items, one after another, so that
+//! the INTEGERs 8 and 7 are encoded as 30 06 02 01 08 02 01 07.
 //!
 //! Decoding keeps the octets, and no item. It fails with the first error of an item, from the
 //! left, and with `ErrorKind::Memory` (1) if the item takes memory. A reader of the contents

@@ -1,4 +1,4 @@
-//! SEQUENCE SIZE (1..MAX) OF and SET SIZE (1..MAX) OF, borrowed, which are `NonEmptyRef` (X.680 51.5).
+//! SEQUENCE SIZE (1..MAX) OF and SET SIZE (1..MAX) OF, borrowed, as `NonEmptyRef` (X.680 51.5).
 //!
 //! A `NonEmptyRef` has the tag, the octets, the order and the errors of its list: `ListRef`,
 //! `SetRef` or `UnorderedSetRef`. The INTEGER 5 alone is 30 03 02 01 05 in a
