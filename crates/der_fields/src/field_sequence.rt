@@ -113,7 +113,7 @@ impl<F: DuplicateFieldsAreEqual> DuplicateValueIsEqual for FieldSequence<F> {
 /// # Errors
 /// The first error of the octets, in the order of the fields; `ErrorKind::TrailingData` (3) if
 /// octets are left over; `ErrorKind::Overflow` (9) if there are more than 4294967295;
-/// `ErrorKind::Memory` (1) if a type that takes memory has none.
+/// `ErrorKind::Memory` (1) if a type takes memory and memory runs out.
 pub fn read_sequence<'a, F: DecodeFields<'a, SliceReader<'a>>>(
     alloc: Global,
     bytes: &'a [u8],

@@ -213,7 +213,7 @@ where
 /// # Errors
 /// The first error of the octets, in the order of the fields; `ErrorKind::TrailingData` (3) if
 /// octets are left over; `ErrorKind::Overflow` (9) if there are more than 4294967295;
-/// `ErrorKind::Memory` (1) if a type that takes memory has none.
+/// `ErrorKind::Memory` (1) if a type takes memory and memory runs out.
 pub fn read_named_sequence<'a, S: NamedFields>(
     alloc: Global,
     bytes: &'a [u8],
