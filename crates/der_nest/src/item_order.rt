@@ -1,7 +1,7 @@
 //! The order of the items of a set, as a type (X.690 11.6).
 //!
 //! The items of a SET OF are in the order of their encodings. A set that names its order,
-//! `ItemSet<T, M>`, requires of its items only that `M` says what orders them. So the type of the
+//! `ItemSet<T, M>`, requires only that `M` defines the order of its items. So the type of the
 //! items may have its own `Form`: it may be values of any type, a CHOICE, or a list of fields
 //! with such a field. A user's own marker takes seven lines:
 //!
