@@ -83,7 +83,7 @@ impl<'a, T: Decode<'a, SliceReader<'a>>> ItemReader<'a, T> {
     /// Returns `None` if there is no such item.
     ///
     /// # Errors
-    /// `ErrorKind::Memory` (1) if an item takes memory.
+    /// `ErrorKind::Memory` (1) if an item takes memory and none is left.
     pub(crate) fn at(mut self, index: usize) -> Option<Result<T, Error>>
         ensures { ReReadsAt T.Form
             (encodings_left self.entry.left T.parse (slice_reader_state self.entry.reader)) index

@@ -5,9 +5,10 @@
 //! type. `value` reads the value again.
 //!
 //! Decoding fails with the first error that the type finds in the contents octets, and with
-//! `ErrorKind::Memory` (1) if the type takes memory. A reader of the contents octets alone reads
-//! them, under DER. A length within an error is relative to the first of the contents octets. The
-//! position of an error is, as everywhere, relative to the first octet of all.
+//! `ErrorKind::Memory` (1) if the type takes memory and none is left. A reader of the contents
+//! octets alone reads them, under DER. A length within an error is relative to the first of the
+//! contents octets. The position of an error is, as everywhere, relative to the first octet of
+//! all.
 
 ghost use Rattle.std.specs.Prelude.{◌≡◌, ◌<◌, ◌^◌, ⊤, length};
 ghost use Rattle.std.specs.Cmp.{on_per, on_equiv};
@@ -55,8 +56,8 @@ impl<'a, T: OneTag + Choice + DecodeValue<'a, SliceReader<'a>>> Kept<'a, T> {
     /// Reads the value of the contents octets.
     ///
     /// # Errors
-    /// `ErrorKind::Memory` (1) if the type takes memory; otherwise the first error in the octets.
-    /// Octets that were read have no such error.
+    /// `ErrorKind::Memory` (1) if the type takes memory and none is left; otherwise the first
+    /// error in the octets. Octets that were read have no such error.
     pub fn value(self, alloc: Global) -> Result<T, Error>
         ensures { DecodesAs T.Form T.value Der T.Marker.TAG (octets_of self.entry) result }
     {

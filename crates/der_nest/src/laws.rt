@@ -78,7 +78,7 @@ pub fn sequence_gives_its_items<T: Form>()
         → Fits octets → item_encodings T.parse octets ≡ map T.encoding vs }
 {}
 
-/// Compares two SEQUENCEs that were not decoded by their contents octets.
+/// Compares two SEQUENCEs by their contents octets, which are not decoded.
 pub fn sequences_by_contents<'a>(one: SequenceRef<'a>, other: SequenceRef<'a>) -> Ordering
     ensures { result ≡ lex (octets_of one.entry) (octets_of other.entry) }
 {

@@ -4,9 +4,10 @@
 //! the INTEGERs 8 and 7 are encoded as 30 06 02 01 08 02 01 07.
 //!
 //! Decoding keeps the octets and the number of items, and no item. It fails with the first error
-//! of an item, from the left, and with `ErrorKind::Memory` (1) if the item takes memory. A reader
-//! of the contents octets alone reads the items, from position 0 and under DER. The octets are
-//! compared and written as they were read. Each call that gives items reads them again.
+//! of an item, from the left, and with `ErrorKind::Memory` (1) if the item takes memory and none
+//! is left. A reader of the contents octets alone reads the items, from position 0 and under DER.
+//! The octets are compared and written as they were read. Each call that gives items reads them
+//! again.
 
 ghost use Rattle.std.specs.Prelude.{◌≡◌, ◌<◌, ◌==◌, ◌^◌, ⊤, length, map, refl, nat_eq, false, IfOk, IfErr};
 ghost use Rattle.std.proofs.Common.{sym};
@@ -89,7 +90,7 @@ impl<'a, T: Decode<'a, SliceReader<'a>>> SequenceOfRef<'a, T> {
     /// such item.
     ///
     /// # Errors
-    /// `ErrorKind::Memory` (1) if an item takes memory.
+    /// `ErrorKind::Memory` (1) if an item takes memory and none is left.
     pub fn get(&self, index: usize) -> Option<Result<T, Error>>
         ensures { ReReadsAt T.Form (item_encodings T.parse self.now) index result }
     {

@@ -5,9 +5,9 @@
 //!
 //! Decoding keeps only the octets. It fails with the first error of an item, from the left, with
 //! `ErrorKind::SetOrdering` (11) if an item is smaller than the one before, and with
-//! `ErrorKind::Memory` (1) if the item takes memory. A reader of the contents octets alone reads
-//! the items, from position 0 and under DER. Each call that gives, writes or compares the items
-//! reads them again.
+//! `ErrorKind::Memory` (1) if the item takes memory and none is left. A reader of the contents
+//! octets alone reads the items, from position 0 and under DER. Each call that gives, writes or
+//! compares the items reads them again.
 
 ghost use Rattle.std.specs.Prelude.{⊤, ◌≡◌, length, false, ◌==◌, IfOk, IfErr};
 ghost use Rattle.std.proofs.Common.{ap, subst, sym};
@@ -125,7 +125,7 @@ impl<'a, T: Decode<'a, SliceReader<'a>> + Duplicate> SetOfRef<'a, T> {
     /// Returns `None` if there is no such item.
     ///
     /// # Errors
-    /// `ErrorKind::Memory` (1) if the copy, or reading, takes memory.
+    /// `ErrorKind::Memory` (1) if the copy, or reading, takes memory and none is left.
     pub fn get(&self, index: usize) -> Option<Result<T, Error>>
         ensures { GivesAt T.Form T.is_copy T.takes_memory_to_copy self.now index result }
     {

@@ -56,7 +56,7 @@ impl<'a, T: Decode<'a, SliceReader<'a>>> CheckedOctets<'a, T> {
     /// such item.
     ///
     /// # Errors
-    /// `ErrorKind::Memory` (1) if an item takes memory.
+    /// `ErrorKind::Memory` (1) if an item takes memory and none is left.
     pub(crate) fn get(&self, index: usize) -> Option<Result<T, Error>>
         ensures { ReReadsAt T.Form (encodings_read self.now.count T.parse Der 0 self.now.octets.now)
             index result }
@@ -85,7 +85,7 @@ impl<'a, T: Decode<'a, SliceReader<'a>> + DerOrd + Tagged> CheckedOctets<'a, T> 
     /// # Errors
     /// `ErrorKind::Overflow` (9) for more than 4294967295 octets; the first error of an item,
     /// from the left; `ErrorKind::SetOrdering` (11) for an item that is smaller than the one
-    /// before; `ErrorKind::Memory` (1) if an item takes memory.
+    /// before; `ErrorKind::Memory` (1) if an item takes memory and none is left.
     pub(crate) fn read(alloc: Global, octets: &'a [u8]) -> Result<CheckedOctets<'a, T>, Error>
         ensures ok { IfOk result (λ read. AcceptsBorrowed T.Form
             (OfOctets (encodings_read read.count T.parse Der 0 read.octets.now)) octets.now) }

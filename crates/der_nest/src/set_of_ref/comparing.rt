@@ -13,7 +13,7 @@ use std::cmp::Ordering;
 ///
 /// # Errors
 /// The error of the comparison of two items; `ErrorKind::Memory` (1) if an item that is read
-/// again takes memory.
+/// again takes memory and none is left.
 pub(crate) fn cmp_borrowed<'a, T: Decode<'a, SliceReader<'a>> + DerOrd + Tagged>(
     mut items: SetOfRefIter<'a, T>,
     mut others: SetOfRefIter<'a, T>,

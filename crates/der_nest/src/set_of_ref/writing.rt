@@ -14,7 +14,7 @@ impl<'a, T: Decode<'a, SliceReader<'a>> + Encode> CheckedOctets<'a, T> {
     ///
     /// # Errors
     /// `ErrorKind::Overflow` (9) if there are more than 4294967295; `ErrorKind::Memory` (1) if an
-    /// item takes memory.
+    /// item takes memory and none is left.
     pub(crate) fn items_len(&self) -> Result<Length, Error>
         ensures { Measures (concat (encodings_read self.now.count T.parse Der 0
             self.now.octets.now)) T.Form.TAKES_MEMORY result }
@@ -30,7 +30,7 @@ impl<'a, T: Decode<'a, SliceReader<'a>> + Encode> CheckedOctets<'a, T> {
     /// Writes the encodings of the items in order.
     ///
     /// # Errors
-    /// The error of the writer; `ErrorKind::Memory` (1) if an item takes memory.
+    /// The error of the writer; `ErrorKind::Memory` (1) if an item takes memory and none is left.
     pub(crate) fn encode_items<W: Writer>(&self, writer: &mut W) -> Result<(), Error>
         ensures { Encodes (concat (encodings_read self.now.count T.parse Der 0 self.now.octets.now))
             T.Form.TAKES_MEMORY (W.state writer.old) (W.state writer.new) result }
