@@ -21,7 +21,7 @@ pub trait DecodeFields<'a, R: Source<'a>>: FieldList {
     /// # Errors
     /// `ErrorKind::Failed` (17) on a failed reader; the first error of the fields, in their
     /// order; `ErrorKind::TrailingData` (3) if octets are left over; `ErrorKind::Memory` (1) if a
-    /// field takes memory.
+    /// field takes memory and none is left.
     fn decode_fields(alloc: Global, reader: &mut R) -> Result<Self, Error>
         ensures { DecodesFields Self.list (R.state reader.old) (R.state reader.new) result };
 
@@ -34,7 +34,7 @@ pub trait EncodeFields: FieldList {
     ///
     /// # Errors
     /// `ErrorKind::Overflow` (9) if there are more than 4294967295; `ErrorKind::Memory` (1) if
-    /// items are read again.
+    /// items are read again and no memory is left.
     fn fields_len(&self) -> Result<Length, Error>
         ensures { Measures (Self.list.octets.contents self.now) (Self.list.octets.re_reads self.now) result };
 
@@ -42,7 +42,7 @@ pub trait EncodeFields: FieldList {
     ///
     /// # Errors
     /// The error of the writer; `ErrorKind::Overflow` (9) if there are more than 4294967295
-    /// octets; `ErrorKind::Memory` (1) if items are read again.
+    /// octets; `ErrorKind::Memory` (1) if items are read again and no memory is left.
     fn encode_fields<W: Writer>(&self, writer: &mut W) -> Result<(), Error>
         ensures { Encodes (Self.list.octets.contents self.now) (Self.list.octets.re_reads self.now) (W.state writer.old)
             (W.state writer.new) result };
@@ -50,7 +50,7 @@ pub trait EncodeFields: FieldList {
     /// Writes the fields before the octets that the writer holds, from last to first.
     ///
     /// # Errors
-    /// `ErrorKind::Memory` (1) if items are read again.
+    /// `ErrorKind::Memory` (1) if items are read again and no memory is left.
     fn encode_fields_back<W: BackWriter>(&self, writer: &mut W) -> Result<(), Error>
         requires { HasRoom (Self.list.octets.contents self.now) (W.state writer.old) }
         ensures { PutsBack (Self.list.octets.contents self.now) (Self.list.octets.re_reads self.now) (W.state writer.old)

@@ -46,8 +46,9 @@ pub trait NamedFields: Sized + Drop {
         ensures { result ≡ list_of self.now };
 }
 
-/// The body of `of_list`, which makes a struct of a list: `from_list!(list => Name { a, default b
-/// })` names the fields in their order. `default` is before a field with a DEFAULT.
+/// The body of `of_list`, which makes a struct of a list:
+/// `from_list!(list => Name { a, default b })` names the fields in their order. `default` is before
+/// a field with a DEFAULT.
 #[macro_export]
 macro_rules! from_list {
     (@ $name:ident, $at:expr, { $($done:tt)* };) => {

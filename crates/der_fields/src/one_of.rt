@@ -234,7 +234,8 @@ impl<A: DerOrd + Tagged + EncodeValue, B: DerOrd + Tagged + EncodeValue> DerOrd 
 ///
 /// # Errors
 /// `ErrorKind::Value` (13) if both are equal; `ErrorKind::Overflow` (9) if a value has more than
-/// 4294967295 contents octets; `ErrorKind::Memory` (1) if items are read again.
+/// 4294967295 contents octets; `ErrorKind::Memory` (1) if items are read again and no memory is
+/// left.
 pub fn cmp_headers<A: Tagged + EncodeValue, B: Tagged + EncodeValue>(
     value: &A,
     other: &B,

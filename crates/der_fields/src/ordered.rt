@@ -23,7 +23,8 @@ pub trait FieldsOrd: FieldList {
     ///
     /// # Errors
     /// `ErrorKind::Overflow` (9) if one has more than 4294967295 octets, `ErrorKind::Value` (13)
-    /// if two are not comparable, `ErrorKind::Memory` (1) if one reads items again.
+    /// if two are not comparable, `ErrorKind::Memory` (1) if one reads items again and no memory
+    /// is left.
     fn cmp_fields(&self, other: &Self) -> Result<Ordering, Error>
         ensures { ComparesFields Self.list self.now other.now result };
 }

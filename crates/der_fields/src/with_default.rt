@@ -1,5 +1,4 @@
-//! A field with a DEFAULT, which has no octets if its value is the default (X.680 25, X.690
-//! 11.5).
+//! A field with a DEFAULT: the default has no octets (X.680 25, X.690 11.5).
 //!
 //! With DEFAULT FALSE the value `true` is encoded as 01 01 FF, and `false` as no octets.
 //!
