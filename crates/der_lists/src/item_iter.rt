@@ -56,7 +56,7 @@ impl<'a, T: Decode<'a, SliceReader<'a>> + Choice> ItemIter<'a, T> {
     /// Counts the items that are left.
     ///
     /// # Errors
-    /// `ErrorKind::Memory` (1) if an item takes memory.
+    /// `ErrorKind::Memory` (1) if an item takes memory and none is left.
     pub(crate) fn counted(mut self) -> Result<usize, Error>
         ensures { HasItems T.Form self.entry
             → Counts T.Form (encodings_to_come T.parse self.entry) result }
@@ -73,7 +73,7 @@ impl<'a, T: Decode<'a, SliceReader<'a>> + Choice> ItemIter<'a, T> {
     /// `None` if there is no such item.
     ///
     /// # Errors
-    /// `ErrorKind::Memory` (1) if an item takes memory.
+    /// `ErrorKind::Memory` (1) if an item takes memory and none is left.
     pub(crate) fn at(mut self, index: usize) -> Option<Result<T, Error>>
         ensures { HasItems T.Form self.entry
             → ComesAt T.Form (encodings_to_come T.parse self.entry) index result }

@@ -4,9 +4,10 @@
 //! the INTEGERs 8 and 7 are encoded as 30 06 02 01 08 02 01 07.
 //!
 //! Decoding keeps the octets, and no item. It fails with the first error of an item, from the
-//! left, and with `ErrorKind::Memory` (1) if the item takes memory. A reader of the contents
-//! octets alone reads the items, from position 0 and under DER. The position of an error is
-//! relative to the first octet of all. The octets are compared and written as they were read.
+//! left, and with `ErrorKind::Memory` (1) if the item takes memory and none is left. A reader of
+//! the contents octets alone reads the items, from position 0 and under DER. The position of an
+//! error is relative to the first octet of all. The octets are compared and written as they were
+//! read.
 
 ghost use Rattle.std.specs.Prelude.{◌≡◌, ◌<◌, ◌≤◌, ◌==◌, ◌^◌, ⊤, List, false, length, refl, IfErr, OnOk};
 ghost use Rattle.der_tlv.specs.declared.error.ErrorKind.TheVariants as kinds;
@@ -88,7 +89,7 @@ impl<'a, T: Decode<'a, SliceReader<'a>> + Choice> ListRef<'a, T> {
     /// Counts the items.
     ///
     /// # Errors
-    /// `ErrorKind::Memory` (1) if an item takes memory.
+    /// `ErrorKind::Memory` (1) if an item takes memory and none is left.
     pub fn count(&self, alloc: Global) -> Result<usize, Error>
         ensures { AreContentsOf (items_format T.Form) (octets_of self.now)
             → Counts T.Form (item_encodings T.parse (octets_of self.now)) result }
@@ -100,7 +101,7 @@ impl<'a, T: Decode<'a, SliceReader<'a>> + Choice> ListRef<'a, T> {
     /// such item.
     ///
     /// # Errors
-    /// `ErrorKind::Memory` (1) if the item, or one before it, takes memory.
+    /// `ErrorKind::Memory` (1) if the item, or one before it, takes memory and none is left.
     pub fn get(&self, alloc: Global, index: usize) -> Option<Result<T, Error>>
         ensures { AreContentsOf (items_format T.Form) (octets_of self.now)
             → ComesAt T.Form (item_encodings T.parse (octets_of self.now)) index result }

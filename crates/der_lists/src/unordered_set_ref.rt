@@ -5,9 +5,10 @@
 //! written and readers must accept it; `SetRef` is the SET OF of DER.
 //!
 //! Decoding keeps the octets, and no item. It fails with the first error of an item, from the
-//! left, and with `ErrorKind::Memory` (1) if the item takes memory. A reader of the contents
-//! octets alone reads the items, from position 0 and under DER. The position of an error is
-//! relative to the first octet of all. The octets are compared and written as they were read.
+//! left, and with `ErrorKind::Memory` (1) if the item takes memory and none is left. A reader of
+//! the contents octets alone reads the items, from position 0 and under DER. The position of an
+//! error is relative to the first octet of all. The octets are compared and written as they were
+//! read.
 
 ghost use Rattle.std.specs.Prelude.{◌≡◌, ◌<◌, ◌≤◌, ◌==◌, ◌^◌, ⊤, List, false, length, refl, IfErr, OnOk};
 ghost use Rattle.der_tlv.specs.declared.error.ErrorKind.TheVariants as kinds;
@@ -90,7 +91,7 @@ impl<'a, T: Decode<'a, SliceReader<'a>> + Choice> UnorderedSetRef<'a, T> {
     /// Counts the items.
     ///
     /// # Errors
-    /// `ErrorKind::Memory` (1) if an item takes memory.
+    /// `ErrorKind::Memory` (1) if an item takes memory and none is left.
     pub fn count(&self, alloc: Global) -> Result<usize, Error>
         ensures { AreContentsOf (items_format T.Form) (octets_of self.now)
             → Counts T.Form (item_encodings T.parse (octets_of self.now)) result }
@@ -102,7 +103,7 @@ impl<'a, T: Decode<'a, SliceReader<'a>> + Choice> UnorderedSetRef<'a, T> {
     /// such item.
     ///
     /// # Errors
-    /// `ErrorKind::Memory` (1) if the item, or one before it, takes memory.
+    /// `ErrorKind::Memory` (1) if the item, or one before it, takes memory and none is left.
     pub fn get(&self, alloc: Global, index: usize) -> Option<Result<T, Error>>
         ensures { AreContentsOf (items_format T.Form) (octets_of self.now)
             → ComesAt T.Form (item_encodings T.parse (octets_of self.now)) index result }
