@@ -90,7 +90,8 @@ impl Any {
     ///
     /// # Errors
     /// `ErrorKind::Overflow` (9) if the value has more than 4294967295 contents octets;
-    /// `ErrorKind::Memory` (1) if it has no more and memory runs out, or if items are read again.
+    /// `ErrorKind::Memory` (1) if it has no more and memory runs out, or if items are read again
+    /// and no memory is left.
     pub fn encode_from<T: Tagged + EncodeValue>(alloc: Global, value: &T) -> Result<Any, Error>
         ensures ok { IfOk result (λ any.
             (tag_of any ≡ T.tag_of value.now) × (contents_of any ≡ T.value.contents value.now)) }
@@ -125,7 +126,8 @@ impl Any {
     ///
     /// # Errors
     /// `ErrorKind::TagUnexpected` (4) with no expected tag if no value of the type has the tag;
-    /// the first error of the contents octets; `ErrorKind::Memory` (1) if the type takes memory.
+    /// the first error of the contents octets; `ErrorKind::Memory` (1) if the type takes memory
+    /// and none is left.
     pub fn decode_as<'a, T: Choice + DecodeValue<'a, SliceReader<'a>>>(
         &'a self,
         alloc: Global,
@@ -139,7 +141,8 @@ impl Any {
     ///
     /// # Errors
     /// `ErrorKind::TagUnexpected` (4) with no expected tag if no value of the type has the tag;
-    /// the first error of the contents octets; `ErrorKind::Memory` (1) if the type takes memory.
+    /// the first error of the contents octets; `ErrorKind::Memory` (1) if the type takes memory
+    /// and none is left.
     pub fn decode_as_encoding<'a, T: Choice + DecodeValue<'a, SliceReader<'a>>>(
         &'a self,
         alloc: Global,

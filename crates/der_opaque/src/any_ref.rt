@@ -93,7 +93,8 @@ impl<'a> AnyRef<'a> {
     ///
     /// # Errors
     /// `ErrorKind::TagUnexpected` (4) with no expected tag if no value of the type has the tag;
-    /// the first error of the contents octets; `ErrorKind::Memory` (1) if the type takes memory.
+    /// the first error of the contents octets; `ErrorKind::Memory` (1) if the type takes memory
+    /// and none is left.
     pub fn decode_as<T: Choice + DecodeValue<'a, SliceReader<'a>>>(
         self,
         alloc: Global,
@@ -108,7 +109,8 @@ impl<'a> AnyRef<'a> {
     ///
     /// # Errors
     /// `ErrorKind::TagUnexpected` (4) with no expected tag if no value of the type has the tag;
-    /// the first error of the contents octets; `ErrorKind::Memory` (1) if the type takes memory.
+    /// the first error of the contents octets; `ErrorKind::Memory` (1) if the type takes memory
+    /// and none is left.
     pub fn decode_as_encoding<T: Choice + DecodeValue<'a, SliceReader<'a>>>(
         self,
         alloc: Global,

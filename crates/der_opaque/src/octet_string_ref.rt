@@ -74,7 +74,7 @@ impl<'a> OctetStringRef<'a> {
     ///
     /// # Errors
     /// The first error of the octets, in reading order; `ErrorKind::TrailingData` (3) if octets
-    /// are left over; `ErrorKind::Memory` (1) if the type takes memory.
+    /// are left over; `ErrorKind::Memory` (1) if the type takes memory and none is left.
     pub fn decode_into<T: FromDer<'a>>(self, alloc: Global) -> Result<T, Error>
         ensures { ReadsAll T.Form (octets_of self.entry) result }
     {
