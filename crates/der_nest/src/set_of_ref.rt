@@ -140,7 +140,7 @@ impl<'a, T: Decode<'a, SliceReader<'a>> + Duplicate> SetOfRef<'a, T> {
         }
     }
 
-    /// Copies the items into a set on the heap.
+    /// Collects the items into a set on the heap.
     ///
     /// # Errors
     /// `ErrorKind::Memory` (1) if memory runs out.
