@@ -7,7 +7,7 @@ use Rattle.std.proofs.Math.Nat.{mul-mod_left, mod-eq_of_lt}
 use Rattle.der_bits.specs.BitString.{bit_at_place, bits_from, bits, are_zero}
 use Rattle.der_bits.specs.BitPlaceLaws.{bits_from-same}
 
--- the bits from place c on stay
+-- the bits from bit c on stay
 high_bits : (n c k : ℕ) → c ≤ k → n / 2 ^ c * 2 ^ c / 2 ^ k ≡ n / 2 ^ k
 high_bits n c k h =
     let e : k ≡ c + (k - c) = omega (arith, h) in

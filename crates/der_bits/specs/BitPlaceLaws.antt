@@ -1,14 +1,14 @@
--- Bits by their places.
+-- Bits by their positions.
 use Rattle.std.proofs.Common.{◌≡◌, ℕ, zero, suc, ◌+◌, ◌-◌, ◌<◌, ◌≤◌, Bool, true, List, [], ◌∷◌, length, refl, ap, ◌∙◌, arith}
 use Rattle.der_bits.specs.BitString.{bit_at_place, bits_from}
 
--- the first of some bits
+-- the first bit, if any are left
 pub bits_from-next : (octets : List ℕ) (i n : ℕ) → i < n → bits_from octets i (n - i) ≡ bit_at_place octets i ∷ bits_from octets (i + 1) (n - (i + 1))
 bits_from-next octets i n h =
     let e : n - i ≡ suc (n - (i + 1)) = omega arith in
     ap (bits_from octets i) e
 
--- and none, where none are left
+-- no bits, if none are left
 pub bits_from-end : (octets : List ℕ) (i n : ℕ) → n ≤ i → bits_from octets i (n - i) ≡ []
 bits_from-end octets i n h =
     let e : n - i ≡ zero = omega arith in
@@ -26,7 +26,7 @@ abbrev tail_of : List Bool → List Bool
 tail_of [] = []
 tail_of (b ∷ bs) = bs
 
--- equal lists of bits have equal bits at each place
+-- equal lists of bits have equal bits at each position
 pub same_places : (o p : List ℕ) (i n j : ℕ) → bits_from o i n ≡ bits_from p i n → j < n → bit_at_place o (i + j) ≡ bit_at_place p (i + j)
 same_places o p i zero j e h = absurd (omega (arith, h))
 same_places o p i (suc n) zero e h =
@@ -36,7 +36,7 @@ same_places o p i (suc n) (suc j) e h =
     let z : i + suc j ≡ (i + 1) + j = omega arith in
     rw z (same_places o p (i + 1) n j (ap tail_of e) (omega (arith, h)))
 
--- and lists of bits with equal bits at each place are equal
+-- lists of bits with equal bits at each position are equal
 pub bits_from-same : (o p : List ℕ) (i n : ℕ) → ((j : ℕ) → i ≤ j → j < i + n → bit_at_place o j ≡ bit_at_place p j) → bits_from o i n ≡ bits_from p i n
 bits_from-same o p i zero same = refl
 bits_from-same o p i (suc n) same =

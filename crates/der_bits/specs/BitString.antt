@@ -8,11 +8,11 @@ use Rattle.std.specs.Bool.{beq}
 use Rattle.std.specs.Cmp.Lexicographic.{pointwise}
 use Rattle.der_elem.specs.Parsing.{ContentsParse}
 
--- numbers of which each is an octet
+-- numbers that are all octets
 abbrev pub AreOctets : List ℕ → Type 0
 AreOctets octets = (k : ℕ) → slice_index_or octets k 0 < 2 ^ 8
 
--- the number of unused bits, which the first contents octet says (8.6.2.2)
+-- the number of unused bits, which is the first contents octet (8.6.2.2)
 abbrev pub unused_count : List ℕ → ℕ
 unused_count [] = 0
 unused_count (count ∷ octets) = count
@@ -22,7 +22,7 @@ abbrev pub bit_octets : List ℕ → List ℕ
 bit_octets [] = []
 bit_octets (count ∷ octets) = octets
 
--- how many bits there are: eight an octet, but for the unused ones
+-- the number of bits: eight for each octet, without the unused ones
 abbrev pub bit_count : List ℕ → ℕ
 bit_count contents = 8 * length (bit_octets contents) - unused_count contents
 
@@ -30,7 +30,7 @@ bit_count contents = 8 * length (bit_octets contents) - unused_count contents
 abbrev pub bit_at_place : List ℕ → ℕ → Bool
 bit_at_place octets i = nat_eq (slice_index_or octets (i / 8) 0 / 2 ^ (7 - i % 8) % 2) 1
 
--- so many bits of octets, from bit i on
+-- n bits of octets, from bit i on
 abbrev pub bits_from : List ℕ → ℕ → ℕ → List Bool
 bits_from octets i zero = []
 bits_from octets i (suc n) = bit_at_place octets i ∷ bits_from octets (i + 1) n
@@ -47,12 +47,12 @@ bits contents = bits_from (bit_octets contents) 0 (bit_count contents)
 abbrev pub same_bits : List ℕ → List ℕ → Bool
 same_bits contents others = pointwise beq (bits contents) (bits others)
 
--- whether so many bits of the last octet can be unused: at most 7, and none where there is no octet (8.6.2.2, 8.6.2.3)
+-- whether this number of bits of the last octet can be unused: at most 7, and none if there is no octet (8.6.2.2, 8.6.2.3)
 abbrev pub can_be_unused : ℕ → List ℕ → Bool
 can_be_unused count [] = nat_eq count 0
 can_be_unused count (octet ∷ octets) = nat_le count 7
 
--- whether so many bits of the last octet, its lowest, are zero (11.2.1)
+-- whether this number of the lowest bits of the last octet are zero (11.2.1)
 abbrev pub are_zero : ℕ → List ℕ → Bool
 are_zero count octets = nat_eq (slice_index_or octets (length octets - 1) 0 % 2 ^ count) 0
 
@@ -60,13 +60,13 @@ are_zero count octets = nat_eq (slice_index_or octets (length octets - 1) 0 % 2 
 abbrev pub is_bit_string : ℕ → List ℕ → Bool
 is_bit_string count octets = can_be_unused count octets && are_zero count octets
 
--- what a number of unused bits and octets come to: a number that can't be (13), then an unused bit that isn't zero (8)
+-- the result for a number of unused bits and octets: an impossible number (13), then an unused bit that is not zero (8)
 abbrev pub parse_bits : ℕ → List ℕ → Result (List ℕ) ErrorKind
 parse_bits count octets =
     if can_be_unused count octets then (if are_zero count octets then Ok (count ∷ octets) else Err (kinds.Noncanonical tags.BitString))
     else Err (kinds.Value tags.BitString)
 
--- what contents octets come to: none (9), then the faults of the number of unused bits and the octets
+-- the result for contents octets: none (9), then the errors of the number of unused bits and the octets
 abbrev pub bits_or_fault : List ℕ → Result (List ℕ) ErrorKind
 bits_or_fault [] = Err kinds.Overflow
 bits_or_fault (count ∷ octets) = parse_bits count octets
@@ -74,25 +74,25 @@ bits_or_fault (count ∷ octets) = parse_bits count octets
 abbrev pub parse_bit_string : ContentsParse
 parse_bit_string rules p contents = bits_or_fault contents
 
--- a bit string with these contents octets, or their first fault
+-- a bit string with these contents octets, or their first error
 abbrev pub ParsedAs : {T : Type 0} → (T → List ℕ) → List ℕ → Result T ErrorKind → Type 0
 ParsedAs contents octets (Ok v) = (contents v ≡ octets) × (bits_or_fault octets ≡ Ok octets)
 ParsedAs contents octets (Err k) = bits_or_fault octets ≡ Err k
 
--- A bit string of these, or (13) for a number of unused bits that can't be or an unused bit that isn't zero, or (7) for more octets than a length can count.
+-- A bit string of these, or (13) for an impossible number of unused bits or an unused bit that is not zero, or (7) for more octets than a length can count.
 abbrev pub KeepsBits : {T : Type 0} → (T → List ℕ) → ℕ → List ℕ → Result T Error → Type 0
 KeepsBits contents count octets (Ok v) = (contents v ≡ count ∷ octets) × (is_bit_string count octets ≡ true) × (length octets < 2 ^ 32)
 KeepsBits contents count octets (Err e) =
     ((e.kind ≡ kinds.Value tags.BitString) × (is_bit_string count octets ≡ false)) ⊎ ((e.kind ≡ kinds.Length tags.BitString) × (is_bit_string count octets ≡ true) × (2 ^ 32 ≤ length octets))
 
--- a bit string with the bits that these octets have without so many of their last bits
+-- a bit string with the bits of these octets, without the last `count` bits
 pub record HasBits (contents : List ℕ) (count : ℕ) (octets : List ℕ) : Type 0 where
   pub unused : unused_count contents ≡ count
   pub same_length : length (bit_octets contents) ≡ length octets
   pub same_bits : bits contents ≡ bits (count ∷ octets)
   pub zero : are_zero count (bit_octets contents) ≡ true
 
--- A bit string with these bits, or (13) for a number of unused bits that can't be, or (7) for more octets than a length can count.
+-- A bit string with these bits, or (13) for an impossible number of unused bits, or (7) for more octets than a length can count.
 abbrev pub KeepsCleared : {T : Type 0} → (T → List ℕ) → ℕ → List ℕ → Result T Error → Type 0
 KeepsCleared contents count octets (Ok v) = HasBits (contents v) count octets × (can_be_unused count octets ≡ true) × (length octets < 2 ^ 32)
 KeepsCleared contents count octets (Err e) =
@@ -103,7 +103,7 @@ abbrev pub KeepsAll : {T : Type 0} → (T → List ℕ) → List ℕ → Result 
 KeepsAll contents octets (Ok v) = (contents v ≡ 0 ∷ octets) × (length octets < 2 ^ 32)
 KeepsAll contents octets (Err e) = (e.kind ≡ kinds.Length tags.BitString) × (2 ^ 32 ≤ length octets)
 
--- The octets, n of them and with no unused bits; else (13) for unused bits, or (7) for another number of octets.
+-- The octets if there are n of them and no unused bits; else (13) for unused bits, or (7) for another number of octets.
 abbrev pub FillsArray : ℕ → List ℕ → Result (List ℕ) Error → Type 0
 FillsArray n contents (Ok octets) = contents ≡ 0 ∷ octets
 FillsArray n contents (Err e) =

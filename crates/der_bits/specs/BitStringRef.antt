@@ -1,4 +1,4 @@
--- What a BitStringRef shows, and what octets are read as one.
+-- The value of a BitStringRef that a caller sees, and the octets that are read as one.
 use Rattle.std.specs.Prelude.{ℕ, List, ◌∷◌, Result}
 use Rattle.der_tlv.specs.declared.error.Error.{Error}
 use Rattle.der_tlv.specs.declared.tag.Tag.{Tag}
@@ -11,6 +11,6 @@ use Rattle.der_bits.specs.BitString.{parse_bit_string}
 abbrev pub contents_of : BitStringRef → List ℕ
 contents_of string = string.unused ∷ string.octets.now
 
--- what decoding contents octets after a tag as a BIT STRING answers
+-- the result of decoding contents octets after a tag as a BIT STRING
 abbrev pub DecodesBitString : Tag → List ℕ → Result BitStringRef Error → Type 0
 DecodesBitString = DecodesOwnAs tags.BitString contents_of (λ string. Unit {0}) parse_bit_string

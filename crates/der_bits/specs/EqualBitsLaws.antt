@@ -34,12 +34,12 @@ unused_zero count octets bound z i from below =
 same_bit : (a b : ℕ) → a < 2 → b < 2 → nat_eq a 1 ≡ nat_eq b 1 → a ≡ b
 same_bit a b p q e = grind (arith, nat_tests, p, q, e)
 
--- a bit by the place of its octet, and its place there
+-- a bit by the index of its octet, and its position there
 bit_of_octet : (octets : List ℕ) (i k j : ℕ) → i / 8 ≡ k → 7 - i % 8 ≡ j → bit_at_place octets i ≡ nat_eq (bit_at (slice_index_or octets k 0) j) 1
 bit_of_octet octets i k j whole place =
     ap (λ n. nat_eq (slice_index_or octets n 0 / 2 ^ (7 - i % 8) % 2) 1) whole ∙ ap (λ n. nat_eq (slice_index_or octets k 0 / 2 ^ n % 2) 1) place
 
--- octets with equal bits at each place are equal
+-- octets with equal bits at each position are equal
 same_octets : (o p : List ℕ) → AreOctets o → AreOctets p → length o ≡ length p → ((i : ℕ) → i < 8 * length o → bit_at_place o i ≡ bit_at_place p i) → o ≡ p
 same_octets o p octets_o octets_p l same = ext_get_or 0 o p l octet
   where
@@ -69,7 +69,7 @@ module _ (u w : ℕ) (o p : List ℕ) (possible_o : can_be_unused u o ≡ true) 
       ] in
       ap (λ n. n ∷ o) c ∙ ap (λ x. w ∷ x) (same_octets o p octets_o octets_p l same)
 
-  -- so the test of the bits is that of the contents octets
+  -- the test of the bits is the test of the contents octets
   pub same_tests : same_bits (u ∷ o) (w ∷ p) ≡ pointwise nat_eq (u ∷ o) (w ∷ p)
   same_tests =
       let of_bits = pointwise_decides {E = beq} booleans_Decides (bits (u ∷ o)) (bits (w ∷ p)) in
@@ -82,13 +82,13 @@ same_bits-decides c d b e =
     let decides = pointwise_decides {E = beq} booleans_Decides (bits c) (bits d) in
     (λ h. decides.0 (sym e ∙ h), λ s. e ∙ decides.1 s)
 
--- and, where it is the test of contents octets, whether these are
+-- if it is the test of contents octets, it decides whether these are equal
 pub contents_decided : (c d : List ℕ) → same_bits c d ≡ pointwise nat_eq c d → IsTrue (same_bits c d) ↔ (c ≡ d)
 contents_decided c d e =
     let decides = bytes_decides c d in
     (λ h. decides.0 (sym e ∙ h), λ s. e ∙ decides.1 s)
 
--- the laws of equality, and of the order of contents octets beside it
+-- the laws of equality, and of the order of contents octets
 pub bit_lists_equiv : IsEquivalence (pointwise beq)
 bit_lists_equiv = lists_equiv bool_eq_equiv
 

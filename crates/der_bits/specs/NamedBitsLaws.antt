@@ -1,4 +1,4 @@
--- The laws of bits that have names.
+-- The laws of named bits.
 use Rattle.std.proofs.Common.{◌≡◌, ℕ, ◌-◌, ◌*◌, ◌/◌, ◌%◌, ◌^◌, ◌≤◌, nat_eq, length, arith, inl, inr, List, ◌∷◌, true, false, Result, Ok, Err, refl, ap, ◌∙◌}
 use Rattle.der_tlv.specs.declared.encoding_rules.EncodingRules.{EncodingRules}
 use Rattle.der_tlv.specs.declared.error.ErrorKind.{ErrorKind}
@@ -14,7 +14,7 @@ use Rattle.der_bits.specs.EqualBitsLaws.{unused_bound, unused_zero}
 use Rattle.der_bits.specs.BitStringLaws.{parsed, bits_of_octets}
 use Rattle.der_bits.specs.NamedBits.{ends_in_one, ending_in_one, named_bits_or_fault, parse_named_bits}
 
--- bits that end in 1 have no fault
+-- bits that end in 1 have no error
 pub named_parsed : (count : ℕ) (octets : List ℕ) → can_be_unused count octets ≡ true → are_zero count octets ≡ true → ends_in_one count octets ≡ true → named_bits_or_fault (count ∷ octets) ≡ Ok (count ∷ octets)
 named_parsed count octets possible zero one = ap ending_in_one (parsed count octets possible zero) ∙ rw one refl
 
@@ -36,7 +36,7 @@ past_end count octets possible zero place past = elim (cases_lt place (8 * lengt
       ap (λ n. nat_eq (n / 2 ^ (7 - place % 8) % 2) 1) (get_or_past octets (place / 8) 0 (omega (arith, above))) ∙ ap (λ n. nat_eq n 1) (bit_at-zero (7 - place % 8))
 ]
 
--- the faults are of the octets
+-- the errors are errors of the octets
 ending_of_octets : (r : Result (List ℕ) ErrorKind) → IsOfOctets r → IsOfOctets (ending_in_one r)
 ending_of_octets (Ok contents) h = of_octets_either (ends_in_one (unused_count contents) (bit_octets contents)) (Ok contents) (Err (kinds.Noncanonical tags.BitString)) tt refl
 ending_of_octets (Err kind) h = h

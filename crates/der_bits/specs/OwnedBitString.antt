@@ -1,4 +1,4 @@
--- What a BitString shows.
+-- The value of a BitString that a caller sees.
 use Rattle.std.specs.Prelude.{ℕ, List, ◌∷◌}
 use Rattle.der_bits.specs.declared.bit_string.BitString.{BitString}
 

@@ -1,4 +1,4 @@
-//! Bit strings of which the type allows a range of lengths.
+//! Bit strings whose type allows a range of lengths.
 
 ghost use Rattle.std.specs.Prelude.{◌≡◌, ◌↔◌, ◌≤◌, ℕ, IsOk, IfErr};
 ghost use Rattle.der_tlv.specs.declared.error.ErrorKind.TheVariants as kinds;
@@ -6,22 +6,22 @@ ghost use Rattle.der_tlv.specs.declared.tag.Tag.TheVariants as tags;
 
 use der_tlv::{Error, Tag};
 
-/// A bit string whose number of bits lies in a range, as one of 3 to 4 flags.
+/// A bit string whose number of bits is in a range, for example 3 to 4 flags.
 pub trait AllowedLenBitString {
     ghost MIN_LEN: { ℕ };
 
     ghost MAX_LEN: { ℕ };
 
-    /// The least number of bits.
+    /// The minimum number of bits.
     const MIN_LEN: u16;
 
-    /// The greatest number of bits.
+    /// The maximum number of bits.
     const MAX_LEN: u16;
 
-    /// Checks that the number of bits lies in the range.
+    /// Checks that the number of bits is in the range.
     ///
     /// # Errors
-    /// `ErrorKind::Length` (7) below `MIN_LEN` and above `MAX_LEN`.
+    /// `ErrorKind::Length` (7) below `MIN_LEN` or above `MAX_LEN`.
     fn check_bit_len(bit_len: u16) -> Result<(), Error>
         ensures ok { IsOk result ↔ ((MIN_LEN ≤ bit_len) × (bit_len ≤ MAX_LEN)) }
         ensures err { IfErr result (λ e. e.kind ≡ kinds.Length tags.BitString) }

@@ -1,6 +1,6 @@
 //! BIT STRING (X.690 8.6, 11.2.1).
 //!
-//! The tag is 03. The contents octets, and what reading refuses, are those of the borrowed form.
+//! The tag is 03. The contents octets and the errors of decoding are those of the borrowed form.
 
 ghost use Rattle.std.specs.Prelude.{◌≡◌, ◌≢◌, ◌↔◌, MatchOption, ◌^◌, ◌<◌, ◌≤◌, [], ◌∷◌, length, true, refl, IsTrue, IfOk, IfErr, Some, None};
 ghost use Rattle.std.proofs.Common.{◌∙◌, sym};
@@ -26,8 +26,8 @@ use der_tlv::{BackWriter, Error, Header, Length, Reader, Source, Tag, Writer};
 use std::alloc::{AllocError, Global};
 use std::cmp::Ordering;
 
-/// The bits of a BIT STRING: the octets that hold them, at most 4294967295, and how many bits of the
-/// last octet are unused.
+/// The bits of a BIT STRING: the octets that hold them, at most 4294967295, and the number of
+/// unused bits of the last octet.
 ///
 /// The bits 011011100101110111 are encoded as 03 04 06 6E 5D C0.
 #[derive(Debug, Drop)]
@@ -43,16 +43,17 @@ pub struct BitString {
 impl BitString {
     ghost use Rattle.der_bits.specs.OwnedBitString.{contents_of};
 
-    /// The greatest number of unused bits.
+    /// The maximum number of unused bits.
     pub const MAX_UNUSED_BITS: u8 = 7;
 
-    /// The bits of `octets` without the lowest `unused_bits` of the last octet, which must be zero.
+    /// Creates a bit string from `octets` without the lowest `unused_bits` of the last octet,
+    /// which must be zero.
     ///
     /// # Errors
-    /// `ErrorKind::Value` (13) for a number of unused bits over 7, or another than 0 where there is
-    /// no octet, and for an unused bit that is not zero; `ErrorKind::Length` (7) for more than
-    /// 4294967295 octets. `ErrorKind::Overflow` (9) cannot occur, since a `usize` of 64 bits can
-    /// count the bits.
+    /// `ErrorKind::Value` (13) for more than 7 unused bits, or more than 0 if there is no octet,
+    /// and for an unused bit that is not zero; `ErrorKind::Length` (7) for more than 4294967295
+    /// octets. `ErrorKind::Overflow` (9) cannot occur, since a `usize` of 64 bits can count the
+    /// bits.
     pub fn new(unused_bits: u8, octets: Vec<u8>) -> Result<BitString, Error>
         ensures { KeepsBits contents_of unused_bits octets.items result }
     {
@@ -68,13 +69,13 @@ impl BitString {
         }
     }
 
-    /// The bits of these octets, but for so many of the last octet, its lowest, which are made zero
-    /// in the vector that was handed in.
+    /// Creates a bit string from `octets` without the lowest `unused_bits` of the last octet,
+    /// which are set to zero in the vector.
     ///
     /// # Errors
-    /// `ErrorKind::Value` (13) for a number of unused bits over 7, or another than 0 where there is
-    /// no octet; `ErrorKind::Length` (7) for more than 4294967295 octets. The number of bits fits a
-    /// `usize`, which has 64 bits, so there is no (`ErrorKind::Overflow`, 9).
+    /// `ErrorKind::Value` (13) for more than 7 unused bits, or more than 0 if there is no octet;
+    /// `ErrorKind::Length` (7) for more than 4294967295 octets. `ErrorKind::Overflow` (9) cannot
+    /// occur, since a `usize` of 64 bits can count the bits.
     pub fn new_cleared(unused_bits: u8, octets: Vec<u8>) -> Result<BitString, Error>
         ensures { KeepsCleared contents_of unused_bits octets.items result }
     {
@@ -94,11 +95,11 @@ impl BitString {
         }
     }
 
-    /// The bits of these octets, all of them, copied.
+    /// Creates a bit string from a copy of all bits of these octets.
     ///
     /// # Errors
-    /// `ErrorKind::Length` (7) for more than 4294967295 octets; `ErrorKind::Memory` (1) where
-    /// memory runs out.
+    /// `ErrorKind::Length` (7) for more than 4294967295 octets; `ErrorKind::Memory` (1) if memory
+    /// runs out.
     pub fn from_bytes(alloc: Global, octets: &[u8]) -> Result<BitString, Error>
         ensures value { IfOk result (λ s. contents_of s ≡ 0 ∷ octets.now) }
         ensures short { length octets.now < 2 ^ 32 → IfErr result (λ e. e.kind ≡ kinds.Memory) }
@@ -111,7 +112,7 @@ impl BitString {
         }
     }
 
-    /// How many bits of the last octet are unused.
+    /// Returns the number of unused bits of the last octet.
     pub fn unused_bits(&self) -> u8
         ensures value { result ≡ unused_count (contents_of self.now) }
         ensures bounded { result ≤ 7 }
@@ -119,28 +120,28 @@ impl BitString {
         self.unused
     }
 
-    /// Whether there are unused bits.
+    /// Returns whether there are unused bits.
     pub fn has_unused_bits(&self) -> bool
         ensures { IsTrue result ↔ (unused_count (contents_of self.now) ≢ 0) }
     {
         self.unused != 0
     }
 
-    /// How many bits there are.
+    /// Returns the number of bits.
     pub fn bit_len(&self) -> usize
         ensures { result ≡ bit_count (contents_of self.now) }
     {
         self.owned_to_ref().bit_len()
     }
 
-    /// Whether there are no bits.
+    /// Returns whether there are no bits.
     pub fn is_empty(&self) -> bool
         ensures { IsTrue result ↔ (bit_octets (contents_of self.now) ≡ []) }
     {
         self.raw_bytes().is_empty()
     }
 
-    /// The octets of the bits, if no bit of them is unused.
+    /// Returns the octets of the bits, if none of their bits is unused.
     pub fn as_bytes(&self) -> Option<&[u8]>
         ensures { MatchOption result (unused_count (contents_of self.now) ≢ 0) (λ octets.
             contents_of self.now ≡ 0 ∷ octets.now) }
@@ -148,7 +149,7 @@ impl BitString {
         self.owned_to_ref().as_bytes()
     }
 
-    /// The octets of the bits, with the unused bits, which are zero.
+    /// Returns the octets of the bits, including the unused bits, which are zero.
     pub fn raw_bytes(&self) -> &[u8]
         ensures octets { result.now ≡ bit_octets (contents_of self.now) }
         ensures zero { are_zero (unused_count (contents_of self.now)) result.now ≡ true }
@@ -156,14 +157,14 @@ impl BitString {
         &self.octets
     }
 
-    /// The bits, each once and in order.
+    /// Returns the bits, each once and in order.
     pub fn bits(&self) -> BitStringIter<'_>
         ensures { result ≡ bits (contents_of self.now) }
     {
         self.owned_to_ref().bits()
     }
 
-    /// The bit at this place, which is below the number of bits.
+    /// Returns the bit at this position, or `None` at and past the end.
     pub fn get(&self, position: usize) -> Option<bool>
         ensures inside { position < bit_count (contents_of self.now)
             → result ≡ Some (bit (contents_of self.now) position) }
@@ -172,7 +173,7 @@ impl BitString {
         self.owned_to_ref().get(position)
     }
 
-    /// The string, borrowed.
+    /// Borrows the string.
     pub fn owned_to_ref(&self) -> BitStringRef<'_>
         ensures { borrowed.contents_of result ≡ contents_of self.now }
     {
@@ -213,7 +214,7 @@ impl<'a, R: Source<'a>> DecodeValue<'a, R> for BitString {
     const TAKES_MEMORY: bool = true;
 
     /// # Errors
-    /// (17) on a failed reader; the first fault of the contents octets; else (1) where memory runs
+    /// (17) on a failed reader; the first error of the contents octets; else (1) if memory runs
     /// out.
     fn decode_value(alloc: Global, reader: &mut R, header: Header) -> Result<BitString, Error> {
         match BitStringRef::decode_value(alloc, reader, header) {
@@ -248,8 +249,8 @@ impl PartialEq for BitString {
     ghost laws = { on_per (λ v. bits (v.unused ∷ v.octets.items))
         (partial_equiv_from_equiv bit_lists_equiv) };
 
-    /// Whether the two have the same bits: since unused bits are zero, whether they have the same
-    /// contents octets.
+    /// Returns whether the two have the same bits. Since unused bits are zero, they then have the
+    /// same contents octets.
     fn eq(&self, other: &BitString) -> bool {
         self.owned_to_ref() == other.owned_to_ref()
     }
@@ -286,7 +287,7 @@ impl Ord for BitString {
         v.possible v.zero w.possible w.zero v.octet w.octet ∙ texts_ties (v.unused ∷ v.octets.items)
         (w.unused ∷ w.octets.items) };
 
-    /// The lexicographic order of the contents octets: the number of unused bits decides first.
+    /// Compares the contents octets lexicographically: the number of unused bits decides first.
     fn cmp(&self, other: &BitString) -> Ordering {
         self.owned_to_ref().cmp(&other.owned_to_ref())
     }

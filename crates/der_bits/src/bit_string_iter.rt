@@ -7,7 +7,7 @@ use crate::bit_string_ref::BitStringRef;
 use std::iter::FusedIterator;
 use std::marker::Model;
 
-/// The bits that are still to come, in order. After the last one, `next` answers `None` for good.
+/// The bits that are left, in order. After the last bit, `next` always returns `None`.
 #[derive(Debug, Drop)]
 pub struct BitStringIter<'a> {
     pub(crate) string: BitStringRef<'a>,
@@ -50,7 +50,7 @@ impl<'a> Iterator for BitStringIter<'a> {
 }
 
 impl<'a> ExactSizeIterator for BitStringIter<'a> {
-    /// How many bits are still to come.
+    /// Returns the number of bits that are left.
     fn len(&self) -> usize
         ensures bits { result ≡ length self.now }
     {

@@ -1,11 +1,12 @@
 //! Borrowed BIT STRING (X.690 8.6, 11.2.1).
 //!
-//! The tag is 03. The contents octets are the number of unused bits of the last octet, 0 to 7, and
-//! then the octets of the bits. The first bit is the highest of the first octet. No bits have no
-//! octet, and the number 0. The unused bits are the lowest of the last octet, and are zero.
+//! The tag is 03. The contents octets are the number of unused bits of the last octet, 0 to 7,
+//! and then the octets of the bits. The first bit is the highest of the first octet. A string of
+//! no bits has no octets of bits, and the number 0. The unused bits are the lowest of the last
+//! octet, and are zero.
 //!
-//! Reading refuses no contents octets (9), then a number of unused bits over 7, or another than 0
-//! where there is no octet (`ErrorKind::Value`, 13), then an unused bit that is not zero
+//! Decoding fails on no contents octets (9), then on more than 7 unused bits, or more than 0 if
+//! there is no octet (`ErrorKind::Value`, 13), then on an unused bit that is not zero
 //! (`ErrorKind::Noncanonical`, 8).
 
 ghost use Rattle.std.specs.Prelude.{◌≡◌, ◌≢◌, ◌↔◌, MatchResult, MatchOption, ◌^◌, ◌<◌, ◌≤◌, [], ◌∷◌, length, true, refl, IsTrue, IfOk, IfErr, Some, None, false};
@@ -34,8 +35,8 @@ use der_tlv::{BackWriter, Error, ErrorKind, Header, Length, Reader, Source, Tag,
 use std::alloc::Global;
 use std::cmp::Ordering;
 
-/// The bits of a BIT STRING, borrowed: the octets that hold them, at most 4294967295, and how many
-/// bits of the last octet are unused.
+/// The bits of a BIT STRING, borrowed: the octets that hold them, at most 4294967295, and the
+/// number of unused bits of the last octet.
 ///
 /// The bits 011011100101110111 are encoded as 03 04 06 6E 5D C0.
 #[derive(Clone, Copy, Debug)]
@@ -52,13 +53,14 @@ impl<'a> BitStringRef<'a> {
     ghost use Rattle.der_bits.specs.OwnedBitString as owned;
     ghost use Rattle.der_bits.specs.BitStringRef.{contents_of};
 
-    /// The bits of `octets` without the lowest `unused_bits` of the last octet, which must be zero.
+    /// Creates a bit string from `octets` without the lowest `unused_bits` of the last octet,
+    /// which must be zero.
     ///
     /// # Errors
-    /// `ErrorKind::Value` (13) for a number of unused bits over 7, or another than 0 where there is
-    /// no octet, and for an unused bit that is not zero; `ErrorKind::Length` (7) for more than
-    /// 4294967295 octets. `ErrorKind::Overflow` (9) cannot occur, since a `usize` of 64 bits can
-    /// count the bits.
+    /// `ErrorKind::Value` (13) for more than 7 unused bits, or more than 0 if there is no octet,
+    /// and for an unused bit that is not zero; `ErrorKind::Length` (7) for more than 4294967295
+    /// octets. `ErrorKind::Overflow` (9) cannot occur, since a `usize` of 64 bits can count the
+    /// bits.
     pub fn new(unused_bits: u8, octets: &'a [u8]) -> Result<BitStringRef<'a>, Error>
         ensures { KeepsBits contents_of unused_bits octets.now result }
     {
@@ -74,7 +76,7 @@ impl<'a> BitStringRef<'a> {
         }
     }
 
-    /// The bits of these octets, all of them.
+    /// Creates a bit string from all bits of these octets.
     ///
     /// # Errors
     /// `ErrorKind::Length` (7) for more than 4294967295 octets.
@@ -84,7 +86,7 @@ impl<'a> BitStringRef<'a> {
         BitStringRef::new(0, octets)
     }
 
-    /// How many bits of the last octet are unused.
+    /// Returns the number of unused bits of the last octet.
     pub fn unused_bits(self) -> u8
         ensures value { result ≡ unused_count (contents_of self.entry) }
         ensures bounded { result ≤ 7 }
@@ -92,35 +94,35 @@ impl<'a> BitStringRef<'a> {
         self.unused
     }
 
-    /// Whether there are unused bits.
+    /// Returns whether there are unused bits.
     pub fn has_unused_bits(self) -> bool
         ensures { IsTrue result ↔ (unused_count (contents_of self.entry) ≢ 0) }
     {
         self.unused != 0
     }
 
-    /// How many bits there are.
+    /// Returns the number of bits.
     pub fn bit_len(self) -> usize
         ensures { result ≡ bit_count (contents_of self.entry) }
     {
         8 * self.octets.len() - self.unused as usize
     }
 
-    /// How many octets the bits have.
+    /// Returns the number of octets of the bits.
     pub fn byte_len(self) -> Length
         ensures { result ≡ length (bit_octets (contents_of self.entry)) }
     {
         Length::new(self.octets.len() as u32)
     }
 
-    /// Whether there are no bits.
+    /// Returns whether there are no bits.
     pub fn is_empty(self) -> bool
         ensures { IsTrue result ↔ (bit_octets (contents_of self.entry) ≡ []) }
     {
         self.raw_bytes().is_empty()
     }
 
-    /// The octets of the bits, if no bit of them is unused.
+    /// Returns the octets of the bits, if none of their bits is unused.
     pub fn as_bytes(self) -> Option<&'a [u8]>
         ensures { MatchOption result (unused_count (contents_of self.entry) ≢ 0) (λ octets.
             contents_of self.entry ≡ 0 ∷ octets.now) }
@@ -131,7 +133,7 @@ impl<'a> BitStringRef<'a> {
         Some(self.octets)
     }
 
-    /// The octets of the bits, with the unused bits, which are zero.
+    /// Returns the octets of the bits, including the unused bits, which are zero.
     pub fn raw_bytes(self) -> &'a [u8]
         ensures octets { result.now ≡ bit_octets (contents_of self.entry) }
         ensures zero { are_zero (unused_count (contents_of self.entry)) result.now ≡ true }
@@ -139,7 +141,7 @@ impl<'a> BitStringRef<'a> {
         self.octets
     }
 
-    /// The bits, each once and in order.
+    /// Returns the bits, each once and in order.
     pub fn bits(self) -> BitStringIter<'a>
         ensures { result ≡ bits (contents_of self.entry) }
     {
@@ -149,7 +151,7 @@ impl<'a> BitStringRef<'a> {
         }
     }
 
-    /// The bit at this place, which is below the number of bits.
+    /// Returns the bit at this position, or `None` at and past the end.
     pub fn get(self, position: usize) -> Option<bool>
         ensures inside { position < bit_count (contents_of self.entry)
             → result ≡ Some (bit (contents_of self.entry) position) }
@@ -162,11 +164,11 @@ impl<'a> BitStringRef<'a> {
         Some((octet >> (7 - position % 8)) & 1 == 1)
     }
 
-    /// The octets of the bits, copied into a vector.
+    /// Copies the octets of the bits into a vector.
     ///
     /// # Errors
-    /// `ErrorKind::Value` (13) where there are unused bits; `ErrorKind::Memory` (1) where memory
-    /// runs out.
+    /// `ErrorKind::Value` (13) if there are unused bits; `ErrorKind::Memory` (1) if memory runs
+    /// out.
     pub fn to_vec(self, alloc: Global) -> Result<Vec<u8>, Error>
         ensures value { IfOk result (λ octets. contents_of self.entry ≡ 0 ∷ octets.items) }
         ensures unused { unused_count (contents_of self.entry) ≢ 0 → IfErr result (λ e.
@@ -180,10 +182,10 @@ impl<'a> BitStringRef<'a> {
         Ok(self.octets.to_vec(alloc)?)
     }
 
-    /// The string, copied.
+    /// Copies the string.
     ///
     /// # Errors
-    /// `ErrorKind::Memory` (1) where memory runs out.
+    /// `ErrorKind::Memory` (1) if memory runs out.
     pub fn ref_to_owned(self, alloc: Global) -> Result<BitString, Error>
         ensures value { IfOk result (λ s. owned.contents_of s ≡ contents_of self.entry) }
         ensures err { IfErr result (λ e. e.kind ≡ kinds.Memory) }
@@ -195,7 +197,7 @@ impl<'a> BitStringRef<'a> {
         })
     }
 
-    /// The bit string with these contents octets, or the first fault.
+    /// Creates the bit string with these contents octets, or returns their first error.
     pub(crate) fn of_contents(contents: &'a [u8]) -> Result<BitStringRef<'a>, ErrorKind>
         requires { length contents.now < 2 ^ 32 }
         ensures { ParsedAs contents_of contents.now result }
@@ -272,8 +274,8 @@ impl<'a> PartialEq for BitStringRef<'a> {
     ghost laws = { on_per (λ v. bits (v.unused ∷ v.octets.now))
         (partial_equiv_from_equiv bit_lists_equiv) };
 
-    /// Whether the two have the same bits: since unused bits are zero, whether they have the same
-    /// contents octets.
+    /// Returns whether the two have the same bits. Since unused bits are zero, they then have the
+    /// same contents octets.
     fn eq(&self, other: &BitStringRef<'a>) -> bool {
         self.unused == other.unused && self.octets == other.octets
     }
@@ -309,7 +311,7 @@ impl<'a> Ord for BitStringRef<'a> {
         v.zero w.possible w.zero v.octet w.octet ∙ texts_ties (v.unused ∷ v.octets.now)
         (w.unused ∷ w.octets.now) };
 
-    /// The lexicographic order of the contents octets: the number of unused bits decides first.
+    /// Compares the contents octets lexicographically: the number of unused bits decides first.
     fn cmp(&self, other: &BitStringRef<'a>) -> Ordering {
         self.unused
             .cmp(&other.unused)
@@ -388,7 +390,7 @@ impl<'a> TryFrom<BitStringRef<'a>> for &'a [u8] {
         (e.kind ≡ kinds.Value tags.BitString) × (unused_count (contents_of s) ≢ 0)) };
 
     /// # Errors
-    /// (13) where there are unused bits.
+    /// (13) if there are unused bits.
     fn try_from(string: BitStringRef<'a>) -> Result<&'a [u8], Error> {
         match string.as_bytes() {
             Some(octets) => Ok(octets),
@@ -405,7 +407,7 @@ impl<'a, const N: usize> TryFrom<BitStringRef<'a>> for [u8; N] {
     ghost try_from_gives = { λ s r. FillsArray N (contents_of s) r };
 
     /// # Errors
-    /// (13) where there are unused bits; (7) for another number of octets.
+    /// (13) if there are unused bits; (7) for another number of octets.
     fn try_from(string: BitStringRef<'a>) -> Result<[u8; N], Error> {
         if string.has_unused_bits() {
             return Err(Error::from_kind(Tag::BitString.value_error()));
@@ -438,8 +440,8 @@ impl<'a> TryFrom<AnyRef<'a>> for BitStringRef<'a> {
         (borrowed_any.contents_of a) r };
 
     /// # Errors
-    /// (4) with no expected tag for another tag; the faults of contents octets in reading order: (9),
-    /// `ErrorKind::Value` (13), `ErrorKind::Noncanonical` (8).
+    /// (4) with no expected tag for another tag; the errors of contents octets in reading order:
+    /// (9), `ErrorKind::Value` (13), `ErrorKind::Noncanonical` (8).
     fn try_from(any: AnyRef<'a>) -> Result<BitStringRef<'a>, Error> {
         if !any.tag().equals(Tag::BitString) {
             return Err(Error::from_kind(any.tag().unexpected_error(None)));
@@ -460,8 +462,8 @@ impl<'a> TryFrom<&'a Any> for BitStringRef<'a> {
         (owned_any.contents_of a.now) r };
 
     /// # Errors
-    /// (4) with no expected tag for another tag; the faults of contents octets in reading order: (9),
-    /// `ErrorKind::Value` (13), `ErrorKind::Noncanonical` (8).
+    /// (4) with no expected tag for another tag; the errors of contents octets in reading order:
+    /// (9), `ErrorKind::Value` (13), `ErrorKind::Noncanonical` (8).
     fn try_from(any: &'a Any) -> Result<BitStringRef<'a>, Error> {
         BitStringRef::try_from(any.to_ref())
     }
@@ -471,7 +473,7 @@ impl<'a> TryFrom<&'a Any> for BitStringRef<'a> {
 pub trait AsBitStringRef: FormValue {
     ghost use Rattle.der_bits.specs.BitStringRef.{contents_of};
 
-    /// The same bit string, borrowed.
+    /// Borrows the bit string.
     fn as_bit_string_ref(&self) -> BitStringRef<'_>
         ensures { contents_of result ≡ Self.value.contents self.now };
 }

@@ -10,8 +10,8 @@ use crate::bit_string_ref::BitStringRef;
 use der_elem::{FixedTag, FormValue};
 use der_tlv::Tag;
 
-/// Whether two bit strings have the same bits, which is whether they are equal, since unused bits
-/// are zero.
+/// Returns whether two bit strings are equal. Since unused bits are zero, this is whether they
+/// have the same bits.
 pub fn equal_bits<'a>(one: BitStringRef<'a>, other: BitStringRef<'a>) -> bool
     ensures same_bits { IsTrue result
         ↔ (bits (contents_of one.entry) ≡ bits (contents_of other.entry)) }
@@ -20,14 +20,14 @@ pub fn equal_bits<'a>(one: BitStringRef<'a>, other: BitStringRef<'a>) -> bool
     one == other
 }
 
-/// The tags of the types (X.680 8.6): of `BitString` and `BitStringRef`.
+/// Returns the tags of the types (X.680 8.6): of `BitString` and `BitStringRef`.
 pub fn universal_tags() -> [Tag; 2]
     ensures { result ≡ tags.BitString ∷ tags.BitString ∷ [] }
 {
     [BitString::TAG, BitStringRef::TAG]
 }
 
-/// A bit string has at most seven unused bits.
+/// Returns the maximum number of unused bits of a bit string, which is seven.
 pub fn max_unused_bits() -> u8
     ensures { result ≡ 7 }
 {

@@ -1,4 +1,4 @@
-//! BIT STRING (X.690 8.6, 11.2.1): bits in order, and bits by their place.
+//! BIT STRING (X.690 8.6, 11.2.1): bits in order, and bits by their position.
 //!
 //! ```rust
 //! match BitStringRef::from_der(rt.alloc(), &[0x03, 0x02, 0x05, 0xa0]) {

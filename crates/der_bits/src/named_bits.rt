@@ -1,9 +1,9 @@
 //! BIT STRING with named bits (X.680 22.7, X.690 8.6, 11.2.2).
 //!
-//! The tag is 03. The contents octets are those of a BIT STRING that has no bit 0 at its end: bits 0
-//! and 2 are encoded as 03 02 05 A0, and no bits as 03 01 00. A bit past the end is 0.
+//! The tag is 03. The contents octets are those of a BIT STRING without bits at its end that are
+//! 0: bits 0 and 2 are encoded as 03 02 05 A0, and no bits as 03 01 00. A bit past the end is 0.
 //!
-//! Reading refuses, in this order: what reading a BIT STRING refuses; a last bit that is 0
+//! Decoding fails, in this order: with the errors of a BIT STRING; on a last bit that is 0
 //! (`ErrorKind::Noncanonical`, 8).
 
 ghost use Rattle.std.specs.Prelude.{◌≡◌, ◌≤◌, ◌<◌, ◌^◌, ℕ, ◌∷◌, length, true, false, refl, Ok};
@@ -24,15 +24,16 @@ use der_tlv::{BackWriter, Error, ErrorKind, Header, Length, Reader, Source, Tag,
 use std::alloc::Global;
 use std::cmp::Ordering;
 
-/// The bits of a BIT STRING whose bits have names, borrowed, without bits 0 at the end.
+/// The named bits of a BIT STRING, borrowed, without bits at the end that are 0.
 ///
-/// In a KeyUsage (RFC 5280, 4.2.1.3) keyCertSign (5) and cRLSign (6) are encoded as 03 02 01 06, and
-/// decipherOnly (8) with keyAgreement (4) and others as two octets.
+/// In a KeyUsage (RFC 5280, 4.2.1.3) keyCertSign (5) and cRLSign (6) are encoded as 03 02 01 06,
+/// and decipherOnly (8) with keyAgreement (4) and others as two octets.
 ///
 /// # Errors
-/// Reading refuses what a BIT STRING is refused for: no contents octets (`ErrorKind::Overflow`, 9),
-/// a number of unused bits that can't be (`ErrorKind::Value`, 13), an unused bit that is not zero
-/// (`ErrorKind::Noncanonical`, 8); then a last bit that is 0 (`ErrorKind::Noncanonical`, 8).
+/// Decoding fails with the errors of a BIT STRING: on no contents octets (`ErrorKind::Overflow`,
+/// 9), on an impossible number of unused bits (`ErrorKind::Value`, 13), on an unused bit that is
+/// not zero (`ErrorKind::Noncanonical`, 8); then on a last bit that is 0
+/// (`ErrorKind::Noncanonical`, 8).
 #[derive(Clone, Copy, Debug, PartialEq, Eq, PartialOrd, Ord)]
 pub struct NamedBitsRef<'a> {
     string: BitStringRef<'a>,
@@ -42,7 +43,7 @@ pub struct NamedBitsRef<'a> {
 impl<'a> NamedBitsRef<'a> {
     ghost use Rattle.der_bits.specs.NamedBitsRef.{contents_of, ParsedAsNamed};
 
-    /// The bits that are set in `string`, without those at its end that are 0.
+    /// Creates the bits of `string`, without the bits at its end that are 0.
     pub fn new(string: BitStringRef<'a>) -> NamedBitsRef<'a>
         ensures same { (place : ℕ) → bit (contents_of result) place
             ≡ bit (borrowed.contents_of string.entry) place }
@@ -55,7 +56,7 @@ impl<'a> NamedBitsRef<'a> {
         }
     }
 
-    /// Whether the bit at this place is set. A bit past the end is not.
+    /// Returns whether the bit at this position is set. A bit past the end is not set.
     pub fn has(self, place: usize) -> bool
         ensures value { result ≡ bit (contents_of self.entry) place }
         ensures absent { bit_count (contents_of self.entry) ≤ place → result ≡ false }
@@ -63,14 +64,14 @@ impl<'a> NamedBitsRef<'a> {
         is_set(self.string.octets, place)
     }
 
-    /// The same bits, as a BIT STRING.
+    /// Returns the bits as a BIT STRING.
     pub fn as_bit_string(self) -> BitStringRef<'a>
         ensures { borrowed.contents_of result ≡ contents_of self.entry }
     {
         self.string
     }
 
-    /// The bits with these contents octets, or the first fault.
+    /// Creates the bits with these contents octets, or returns their first error.
     fn of_contents(contents: &'a [u8]) -> Result<NamedBitsRef<'a>, ErrorKind>
         requires { length contents.now < 2 ^ 32 }
         ensures { ParsedAsNamed contents.now result }

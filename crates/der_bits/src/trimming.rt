@@ -1,10 +1,10 @@
-//! Bits 0 at the end of octets.
+//! Bits at the end of octets that are 0.
 
 ghost use Rattle.std.specs.Prelude.{◌≡◌, ◌<◌, ◌≤◌, ℕ, ◌-◌, ◌/◌, ◌%◌, ◌^◌, length, slice_index_or, true};
 ghost use Rattle.der_bits.specs.BitString.{can_be_unused, are_zero, bit_at_place};
 ghost use Rattle.der_bits.specs.NamedBits.{ends_in_one};
 
-/// Whether the last bit is 1, of octets of which so many bits are unused, or there is no octet.
+/// Returns whether the last bit before `count` unused bits is 1, or there is no octet.
 pub(crate) fn ends_in_one(count: u8, octets: &[u8]) -> bool
     requires { count ≤ 7 }
     ensures { result ≡ ends_in_one count octets.now }
@@ -15,7 +15,7 @@ pub(crate) fn ends_in_one(count: u8, octets: &[u8]) -> bool
     }
 }
 
-/// The octets without those at the end that are 00.
+/// Returns the octets without the octets at the end that are 00.
 pub(crate) fn without_zero_octets(octets: &[u8]) -> &[u8]
     ensures shorter { length result.now ≤ length octets.now }
     ensures same { (k : ℕ) → slice_index_or result.now k 0 ≡ slice_index_or octets.now k 0 }
@@ -29,7 +29,7 @@ pub(crate) fn without_zero_octets(octets: &[u8]) -> &[u8]
     &octets[..len]
 }
 
-/// How many bits of an octet, its lowest, are 0.
+/// Counts the lowest bits of an octet that are 0.
 fn low_zeros(octet: u8) -> u8
     requires { 0 < octet }
     ensures few { result ≤ 7 }
@@ -39,7 +39,7 @@ fn low_zeros(octet: u8) -> u8
     octet.trailing_zeros() as u8
 }
 
-/// How many bits of the last octet, its lowest, are 0.
+/// Counts the lowest bits of the last octet that are 0.
 pub(crate) fn zeros_at_end(octets: &[u8]) -> u8
     requires { 0 < length octets.now → 0 < slice_index_or octets.now (length octets.now - 1) 0 }
     ensures possible { can_be_unused result octets.now ≡ true }
@@ -52,7 +52,7 @@ pub(crate) fn zeros_at_end(octets: &[u8]) -> u8
     }
 }
 
-/// Whether the bit at this place is set; one past the end is not.
+/// Returns whether the bit at this position is set. A bit past the end is not set.
 pub(crate) fn is_set(octets: &[u8], place: usize) -> bool
     ensures { result ≡ bit_at_place octets.now place }
 {

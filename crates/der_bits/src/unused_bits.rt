@@ -3,8 +3,8 @@
 ghost use Rattle.std.specs.Prelude.{◌≡◌, ◌∷◌, length, true};
 ghost use Rattle.der_bits.specs.BitString.{AreOctets, can_be_unused, are_zero, bits};
 
-/// Whether so many bits of the last octet can be unused: at most 7, and none where there is no
-/// octet.
+/// Returns whether `count` bits of the last octet can be unused: at most 7, and none if there is
+/// no octet.
 pub(crate) fn can_be_unused(count: u8, octets: &[u8]) -> bool
     ensures { result ≡ can_be_unused count octets.now }
 {
@@ -14,7 +14,7 @@ pub(crate) fn can_be_unused(count: u8, octets: &[u8]) -> bool
     }
 }
 
-/// Whether so many bits of the last octet are zero.
+/// Returns whether the lowest `count` bits of the last octet are zero.
 pub(crate) fn are_zero(count: u8, octets: &[u8]) -> bool
     requires { can_be_unused count octets.now ≡ true }
     ensures { result ≡ are_zero count octets.now }
@@ -25,7 +25,7 @@ pub(crate) fn are_zero(count: u8, octets: &[u8]) -> bool
     }
 }
 
-/// Sets so many bits of the last octet, its lowest, to zero.
+/// Sets the lowest `count` bits of the last octet to zero.
 pub(crate) fn clear(count: u8, octets: &mut [u8])
     requires { can_be_unused count octets.old ≡ true }
     ensures length { length octets.new ≡ length octets.old }

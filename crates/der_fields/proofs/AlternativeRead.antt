@@ -1,4 +1,4 @@
--- The alternative that has the next tag is read: the first, or the other where it is none of the first's.
+-- The alternative that has the next tag is read: the first, or the other if the tag is none of the first's.
 use Rattle.std.proofs.Common.{◌≡◌, ℕ, List, ◌++◌, length, take, drop, Bool, true, false, Option, Some, Ok, sym, ap, ◌∙◌, append_assoc, subst}
 use Rattle.std.proofs.lemmas.List.{take-append-drop}
 use Rattle.der_tlv.specs.declared.tag.Tag.{Tag}
@@ -19,13 +19,13 @@ same_tag octets t u n e l =
     let h : octets ≡ identifier u ++ (l.others ++ drop n octets) = sym (take-append-drop n octets) ∙ ap (λ o. o ++ drop n octets) l.octets_are ∙ append_assoc (identifier u) l.others (drop n octets) in
     (identifier-unique t u _ _ (f ∙ h)).0
 
--- what the tests say of the next tag, they say of the tag that was read
+-- the tests give the same results for the next tag and for the tag that was read
 tag_is_next : (tags : Tag → Bool) (one : Bool) (octets : List ℕ) (t u : Tag) (n : ℕ) (first_tag : Option Tag) → take (length (identifier t)) octets ≡ identifier t → tags t ≡ one → first_tag ≡ Some u → BeginsWithFirst first_tag (take n octets) → TagIs tags one first_tag
 tag_is_next tags one octets t u n first_tag e h is l =
     let same = same_tag octets t u n e (subst (λ first_tag. BeginsWithFirst first_tag (take n octets)) is l) in
     subst (TagIs tags one) (sym is) (ap tags (sym same) ∙ h)
 
--- what reading the first alternative shows of the CHOICE
+-- the CHOICE that reading the first alternative gives
 pub record FirstRead {A B : Type 0} (F : form.Ghosts A) (G : form.Ghosts B) (old new : ReaderState) (v : A) : Type 0 where
   pub taken : ℕ
   pub ready : old.failed ≡ false
@@ -44,7 +44,7 @@ first_read F G old seen_at new v t u seen own is read' =
       after = read.after;
     }
 
--- what reading the other alternative shows of the CHOICE
+-- the CHOICE that reading the other alternative gives
 pub record OtherRead {A B : Type 0} (F : form.Ghosts A) (G : form.Ghosts B) (old new : ReaderState) (w : B) : Type 0 where
   pub taken : ℕ
   pub ready : old.failed ≡ false

@@ -1,4 +1,4 @@
--- A field that is read, and then those after it.
+-- A field that is read, and then the fields after it.
 use Rattle.std.proofs.Common.{◌≡◌, ℕ, ◌+◌, ◌<◌, List, [], ◌∷◌, ◌++◌, length, take, drop, Bool, false, Option, Some, None, Result, Ok, Err, refl, inl, inr, ◌⊎◌, ◌-◌, sym, ap, ◌∙◌, subst, arith, add_assoc}
 use Rattle.std.proofs.lemmas.List.{take-append-drop, length-take, length-drop}
 use Rattle.std.proofs.Math.Seq.{drop-length}
@@ -39,7 +39,7 @@ same_tag {m} {n} {t} {u} e = ap (tag_in t) e
     tag_in other (Ok (n, t)) = t
     tag_in other (Err k) = other
 
--- what follows begins with another tag
+-- the octets that follow begin with another tag
 other_tag : (tags : Tag → Bool) (p : ℕ) (octets : List ℕ) {t : Tag} → BeginsWithTag t octets → (octets ≡ []) ⊎ OtherTag tags p octets → tags t ≡ false
 other_tag tags p octets {t} l h = elim h [
   | inl none ↦ absurd (let some = begins_with_tag_some l in omega (arith, ap length none))

@@ -1,4 +1,4 @@
--- The laws of a CHOICE, from those of its alternatives.
+-- The laws of a CHOICE, from the laws of its alternatives.
 use Rattle.std.proofs.Common.{◌≡◌, ℕ, ◌<◌, IsTrue, ◌↔◌, List, [], ◌∷◌, ◌++◌, length, Bool, true, false, ◌||◌, Option, Some, None, Result, Ok, Err, refl, sym, ap, ◌∙◌, arith, append_assoc, subst}
 use Rattle.std.proofs.lemmas.Bool.{or_left, or_right}
 use Rattle.der_tlv.specs.declared.encoding_rules.EncodingRules.{EncodingRules}
@@ -20,7 +20,7 @@ use Rattle.der_fields.specs.FieldLaws.{follows_some}
 use Rattle.der_fields.specs.DistinguishingLaws.{same_first_tag}
 use Rattle.der_fields.specs.Alternatives.{TagIs, of_one, AcceptsOne, ReadableOne, ComparableOne, IsCopyOne, parse_by_tag, parse_one}
 
--- the faults are of the octets, where those of both alternatives are
+-- the errors are errors of the octets, if those of both alternatives are
 by_tag_of_octets : (tags tags' : Tag → Bool) (first other : Result (ℕ × List ℕ) ErrorKind) → IsOfOctets first → IsOfOctets other → (next : Result (ℕ × Tag) ErrorKind) → IsOfOctets next → IsOfOctets (parse_by_tag tags tags' first other next)
 by_tag_of_octets tags tags' first other a b (Err k) h = h
 by_tag_of_octets tags tags' first other a b (Ok (count, tag)) h =
@@ -69,7 +69,7 @@ abbrev tag_or : Tag → Result (ℕ × Tag) ErrorKind → Tag
 tag_or t (Err k) = t
 tag_or t (Ok (count, u)) = u
 
--- the alternative is that of the tag
+-- the tag selects the alternative
 first_parsed : (tags tags' : Tag → Bool) (p : ℕ) (octets : List ℕ) (first other : _) → NextIs tags true p octets → parse_by_tag tags tags' first other (read_tag p octets) ≡ first
 first_parsed tags tags' p octets first other n = rw (n.is_next, n.is_one) refl
 
@@ -119,7 +119,7 @@ module _ {A B : Type 0} (F : form.Ghosts A) (G : form.Ghosts B) (rules : Encodin
   comparable_of_one (First v) (Other w) b c (a, h) (d, k) = (h, k)
   comparable_of_one (Other w) (First v) b c (a, h) (d, k) = (k, h)
 
--- what either alternative has, the CHOICE has
+-- the CHOICE has a property if either alternative has it
 pub test_of_one : {A B : Type 0} (test : A → Bool) (test' : B → Bool) (p q : Bool) → ((v : A) → test v ≡ true → p ≡ true) → ((w : B) → test' w ≡ true → q ≡ true) → (v : OneOf A B) → of_one test test' v ≡ true → (p || q) ≡ true
 test_of_one test test' p q f g (First v) h = or_left p q (f v h)
 test_of_one test test' p q f g (Other w) h = or_right p q (g w h)
@@ -148,12 +148,12 @@ pub is_tlv_one : {A B : Type 0} (F : form.Ghosts A) (G : form.Ghosts B) → ((ru
 is_tlv_one F G f g rules (First v) b a = f rules v b a.0
 is_tlv_one F G f g rules (Other w) b a = g rules w b a.0
 
--- tags of which one is one of these, and the other is not, are not the same
+-- two tags are different if one of them is one of these and the other is not
 pub tags_differ : (tags : Tag → Bool) (l m : Option Tag) → TagIs tags true l → TagIs tags false m → l ≡ m → ⊥
 tags_differ tags None m h k e = h
 tags_differ tags (Some t) m h k e = let other : tags t ≡ false = subst (TagIs tags false) (sym e) k in absurd (cc)
 
--- values are equal exactly where their encodings are: those of two alternatives begin with different tags
+-- values are equal exactly if their encodings are: the encodings of two alternatives begin with different tags
 module _ {A B : Type 0} (F : form.Ghosts A) (G : form.Ghosts B) (eq : A → A → Bool) (eq' : B → B → Bool) (encoding_eq : (v x : A) → F.comparable v x → IsTrue (eq v x) ↔ (F.encoding v ≡ F.encoding x)) (encoding_eq' : (w y : B) → G.comparable w y → IsTrue (eq' w y) ↔ (G.encoding w ≡ G.encoding y)) (starts : (v : A) → Starts (F.first_tag_of v) (F.encoding v)) (starts' : (w : B) → Starts (G.first_tag_of w) (G.encoding w)) where
   apart : (v : A) (w : B) → TagIs F.tags true (F.first_tag_of v) → TagIs F.tags false (G.first_tag_of w) → F.encoding v ≡ G.encoding w → ⊥
   apart v w h k e = tags_differ F.tags (F.first_tag_of v) (G.first_tag_of w) h k (same_first_tag (F.first_tag_of v) (G.first_tag_of w) (F.encoding v) (G.encoding w) (starts v) (starts' w) e)

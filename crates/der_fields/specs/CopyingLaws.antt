@@ -1,4 +1,4 @@
--- Copies of fields are as the fields.
+-- Copies of fields have the properties of the fields.
 use Rattle.std.proofs.Common.{◌≡◌, ℕ, List, ◌++◌, Bool, ◌||◌, Option, ap, ◌∙◌}
 use Rattle.der_tlv.specs.declared.tag.Tag.{Tag}
 use Rattle.der_elem.specs.FirstTags.{Starts}

@@ -1,4 +1,4 @@
--- The laws of fields with a DEFAULT, from those of the values.
+-- The laws of fields with a DEFAULT, from the laws of the values.
 use Rattle.std.proofs.Common.{◌≡◌, ℕ, List, [], ◌∷◌, ◌++◌, length, Bool, true, false, nat_eq, Option, Some, None, Result, Ok, Err, refl, sym, ap, ◌∙◌, arith, append_assoc, subst, not, eq-eqb, IsTrue, ◌↔◌}
 use borrow.Author.Tests.{eqb-true}
 use Rattle.std.proofs.lemmas.Bool.{false_from_ne_true}
@@ -29,7 +29,7 @@ use Rattle.der_elem.specs.FirstTagLaws.{starts_tagged, own_first_tag_tagged, beg
 use Rattle.der_elem.specs.OrderLaws.{encoding-some, lex-absent-present, lex-present-absent}
 use Rattle.der_fields.specs.Defaults.{is_default, octets_unless, first_tag_unless, test_unless, accepts_unless, refuse_default, default_at_tag, parse_default}
 
--- the faults are of the octets, where those of the value are
+-- the errors are errors of the octets, if those of the value are
 refused_of_octets : (default : List ℕ) (tag : Tag) (r : Result (ℕ × List ℕ) ErrorKind) → IsOfOctets r → IsOfOctets (refuse_default default tag r)
 refused_of_octets default tag (Err k) h = h
 refused_of_octets default tag (Ok (n, octets)) h = of_octets_either (pointwise nat_eq octets default) (Err (Noncanonical tag)) (Ok (n, octets)) refl tt
@@ -44,7 +44,7 @@ default_of_octets tags default parse h rules p [] = tt
 default_of_octets tags default parse h rules p (z ∷ octets) =
     default_at_tag_of_octets tags default (parse rules p (z ∷ octets)) (h rules p (z ∷ octets)) (read_tag p (z ∷ octets)) (tag_of_octets_read p (z ∷ octets))
 
--- the default's encoding is told from every other
+-- the test recognizes the default's encoding
 default_refused : (default octets : List ℕ) → octets ≡ default → pointwise nat_eq octets default ≡ true
 default_refused default octets e = (bytes_decides octets default).1 e
 
@@ -56,22 +56,22 @@ other_passes default octets n tag h =
     let differs : pointwise nat_eq octets default ≡ false = false_from_ne_true (pointwise nat_eq octets default) (λ e. h (is_the_default default octets e)) in
     rw differs refl
 
--- a test that holds exactly where octets are the default's
+-- a test that is true exactly if the octets are the default's
 told_default : (default octets : List ℕ) (test : Bool) → (test ≡ true → octets ≡ default) → (octets ≡ default → test ≡ true) → test ≡ is_default default octets
 told_default default octets true f g = sym (default_refused default octets (f refl))
 told_default default octets false f g = sym (false_from_ne_true (pointwise nat_eq octets default) (λ e. let h = g (is_the_default default octets e) in absurd (cc)))
 
--- an explicit tag stands around the default's encoding
+-- an explicit tag before both encodings does not change whether one is the default's
 pub explicit_default : (t : Tag) (default octets : List ℕ) → is_default default octets ≡ is_default (tlv t default) (tlv t (octets ++ []))
 explicit_default t default octets =
     told_default (tlv t default) (tlv t (octets ++ [])) (is_default default octets) (λ h. ap (tlv t) (append-nil octets ∙ is_the_default default octets h)) (λ e. default_refused default octets (sym (append-nil octets) ∙ (tlv-injective t t (octets ++ []) default e).1))
 
--- after a tag no other BOOLEAN is encoded as false is
+-- after a tag, only false has the encoding of false
 pub false_default : (t : Tag) (v : Bool) → not v ≡ is_default (tlv t (boolean_contents false)) (tlv t (boolean_contents v))
 false_default t false = told_default (tlv t (boolean_contents false)) (tlv t (boolean_contents false)) true (λ h. refl) (λ e. refl)
 false_default t true = told_default (tlv t (boolean_contents false)) (tlv t (boolean_contents true)) false (λ h. absurd (cc)) (λ e. let same = boolean_contents-injective true false (tlv-injective t t (boolean_contents true) (boolean_contents false) e).1 in sym same)
 
--- after a tag no other number is encoded as the default is
+-- after a tag, only the default has the encoding of the default
 pub number_default : (t : Tag) (n v : ℕ) → nat_eq v n ≡ is_default (tlv t (natural_contents n)) (tlv t (natural_contents v))
 number_default t n v =
     told_default (tlv t (natural_contents n)) (tlv t (natural_contents v)) (nat_eq v n) (λ h. ap (λ v. tlv t (natural_contents v)) (eqb-true v n h)) (λ e. eq-eqb v n (natural_contents-injective v n (tlv-injective t t (natural_contents v) (natural_contents n) e).1))
@@ -128,7 +128,7 @@ module _ {T : Type 0} (F : form.Ghosts T) where
   re_reads_default true v h = absurd (cc)
   re_reads_default false v h = F.re_reads_memory v h
 
--- the first tag of a field that is there is one of its own
+-- the first tag of a present field is one of its own
 pub own_first_tag_default : (tags : Tag → Bool) (own : Tag) → tags own ≡ true → (first_tag : Option Tag) → first_tag ≡ Some own → (k : Bool) (t : Tag) → first_tag_unless k first_tag ≡ Some t → tags t ≡ true
 own_first_tag_default tags own is first_tag e true t f = absurd (cc)
 own_first_tag_default tags own is first_tag e false t f = own_first_tag_tagged tags own is first_tag e t f
@@ -144,7 +144,7 @@ module _ {T : Type 0} (tag_of : T → Tag) (contents encoding : T → List ℕ) 
   beginning_default first_tag first_tag_is true false v w h = absurd (subst (SamePresence None) (first_tag_is w) h)
   beginning_default first_tag first_tag_is false true v w h = absurd (subst (λ l. SamePresence l None) (first_tag_is v) h)
 
-  -- no octets are before some
+  -- an absent value is less than a present one
   pub absent_first : (v w : T) (k l : Bool) → k ≡ true → l ≡ false → Less ≡ lex (octets_unless k (encoding v)) (octets_unless l (encoding w))
   absent_first v w true false e f = sym (lex-absent-present tag_of contents encoding encoding_is w)
   absent_first v w true true e f = absurd (cc)
@@ -168,6 +168,6 @@ module _ {T : Type 0} (tag_of : T → Tag) (contents encoding : T → List ℕ) 
       (λ e. let some = encoding-some tag_of contents encoding encoding_is v in absurd (omega (arith, ap length e))),
     )
 
-    -- values are equal exactly where the fields' octets are
+    -- values are equal exactly if the octets of the fields are
     pub encoding_eq_default : (v w : T) → comparable v w → IsTrue (eq v w) ↔ (octets_unless (is_default default (encoding v)) (encoding v) ≡ octets_unless (is_default default (encoding w)) (encoding w))
     encoding_eq_default v w = eq_at (is_default default (encoding v)) (is_default default (encoding w)) v w refl refl

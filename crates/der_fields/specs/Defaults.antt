@@ -16,17 +16,17 @@ abbrev pub octets_unless : Bool → List ℕ → List ℕ
 octets_unless true octets = []
 octets_unless false octets = octets
 
--- its first tag
+-- the first tag of such a field
 abbrev pub first_tag_unless : Bool → Option Tag → Option Tag
 first_tag_unless true first_tag = None
 first_tag_unless false first_tag = first_tag
 
--- whether the value is not the default, and this holds of it
+-- whether the value is not the default, and the test is true of it
 abbrev pub test_unless : Bool → Bool → Bool
 test_unless true test = false
 test_unless false test = test
 
--- the grammar: the default is read from no octets, any other value from its own
+-- the default is read from no octets, and any other value from its own octets
 abbrev pub accepts_unless : Bool → Type 0 → (List ℕ → Type 0) → List ℕ → Type 0
 accepts_unless true can_be_read accepts octets = (octets ≡ []) × can_be_read
 accepts_unless false can_be_read accepts octets = accepts octets
@@ -40,7 +40,7 @@ abbrev pub default_at_tag : (Tag → Bool) → List ℕ → Result (ℕ × List 
 default_at_tag tags default parsed (Err k) = Err k
 default_at_tag tags default parsed (Ok (count, tag)) = if tags tag then refuse_default default tag parsed else Ok (0, [])
 
--- At the end, and before a tag that is none of these, the value is the default. The next tag's faults come first, and the default's own encoding is refused.
+-- At the end, and before a tag that is none of these, the value is the default. The errors of the next tag come first, and the default's own encoding is refused.
 abbrev pub parse_default : (Tag → Bool) → List ℕ → Parse → Parse
 parse_default tags default parse rules p [] = Ok (0, [])
 parse_default tags default parse rules p (z ∷ octets) = default_at_tag tags default (parse rules p (z ∷ octets)) (read_tag p (z ∷ octets))

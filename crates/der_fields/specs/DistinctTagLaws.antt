@@ -1,4 +1,4 @@
--- Where the tags of fields are distinct, each field is told from what follows it.
+-- If the tags of fields are distinct, each field is distinguished from what follows it.
 use Rattle.std.proofs.Common.{◌≡◌, List, [], ◌∷◌, Bool, true, false, ◌||◌, not, Option, Some, None, refl, sym, ◌∙◌, subst}
 use Rattle.std.proofs.lemmas.Bool.{and_parts, not-true, both_ways, false_from_ne_true}
 use Rattle.der_tlv.specs.declared.tag.Tag.{Tag}
@@ -34,7 +34,7 @@ not_none : (next : Option Tag) → HasFirstTag next → next ≡ None → ⊥
 not_none next present e = let is = present.is_tag in absurd (cc)
 
 module _ (tags : Tag → Bool) (known following : Option (List Tag)) (are_known : (t : Tag) → tags t ≡ true → may_be known t ≡ true) where
-  -- a field that is told from those after it, whatever its value is
+  -- a field is distinguished from the fields after it, whatever its value
   pub field_distinguished : (may_be_absent : Bool) (first_tag next : Option Tag) → (may_be_absent ≡ false → HasFirstTag first_tag) → ((t : Tag) → next ≡ Some t → may_be following t ≡ true) → is_distinguished may_be_absent known following ≡ true → Distinguished tags first_tag next
   field_distinguished may_be_absent (Some t) next there follows e = tt
   field_distinguished may_be_absent None None there follows e = tt
@@ -42,7 +42,7 @@ module _ (tags : Tag → Bool) (known following : Option (List Tag)) (are_known 
   field_distinguished true None (Some t) there follows e =
       false_from_ne_true (tags t) (λ h. both_ways _ (distinct_tag known following t e (follows t refl)) (are_known t h))
 
-  -- the tag that a field and those after it begin with is known
+  -- the tag that a field and the fields after it begin with is known
   pub first_is_known : (may_be_absent : Bool) (first_tag next : Option Tag) → ((t : Tag) → first_tag ≡ Some t → tags t ≡ true) → (may_be_absent ≡ false → HasFirstTag first_tag) → ((t : Tag) → next ≡ Some t → may_be following t ≡ true) → (t : Tag) → first_tag_or_next first_tag next ≡ Some t → may_be (first_known may_be_absent known following) t ≡ true
   first_is_known true (Some u) next own there follows t e = known_left known following t (are_known t (own t e))
   first_is_known true None next own there follows t e = known_right known following t (follows t e)
@@ -55,7 +55,7 @@ tag_is_one tags first_tag own e h = subst (TagIs tags true) (sym e) h
 tag_is_none : (tags : Tag → Bool) (first_tag : Option Tag) (own : Tag) → first_tag ≡ Some own → tags own ≡ false → TagIs tags false first_tag
 tag_is_none tags first_tag own e h = subst (TagIs tags false) (sym e) h
 
--- where the tags of two alternatives are distinct, each value's tag tells its alternative
+-- if the tags of two alternatives are distinct, the tag of each value selects its alternative
 module _ {A B : Type 0} (tags : Tag → Bool) (tags' : Tag → Bool) (known known' : Option (List Tag)) (tag_of : A → Tag) (tag_of' : B → Tag) (first_tag : A → Option Tag) (first_tag' : B → Option Tag) (first_tag_is : (v : A) → first_tag v ≡ Some (tag_of v)) (first_tag_is' : (w : B) → first_tag' w ≡ Some (tag_of' w)) (own : (v : A) → tags (tag_of v) ≡ true) (own' : (w : B) → tags' (tag_of' w) ≡ true) (are_known : (t : Tag) → tags t ≡ true → may_be known t ≡ true) (are_known' : (t : Tag) → tags' t ≡ true → may_be known' t ≡ true) (distinct : are_distinct known known' ≡ true) where
   first_distinguished : (v : A) → TagIs tags true (first_tag v)
   first_distinguished v = tag_is_one tags (first_tag v) (tag_of v) (first_tag_is v) (own v)

@@ -1,4 +1,4 @@
--- The laws of a field and those after it, from theirs.
+-- The laws of a field and the fields after it, from the laws of both.
 use Rattle.std.proofs.Common.{◌≡◌, ℕ, ◌+◌, ◌<◌, List, [], ◌∷◌, ◌++◌, length, drop, Bool, true, false, ◌||◌, Option, Some, None, Result, Ok, Err, refl, sym, ap, ◌∙◌, arith, append_assoc, subst}
 use Rattle.std.proofs.lemmas.Bool.{or_left, or_right}
 use Rattle.std.proofs.lemmas.List.{length-append}
@@ -18,7 +18,7 @@ use Rattle.der_elem.specs.FirstTagLaws.{begins_with_tag_some}
 use Rattle.der_fields.specs.FieldsFormat.{FieldsFormat}
 use Rattle.der_fields.specs.FieldLists.{Distinguished, first_tag_or_next, AcceptsField, after_field, parse_field, parse_end}
 
--- what follows octets that are some is told from them
+-- octets that are not empty are distinguished from what follows them
 pub follows_some : (tags : Tag → Bool) (b x : List ℕ) → 0 < length b → MayFollow tags b x
 follows_some tags [] x h = absurd (omega arith)
 follows_some tags (z ∷ b) x h = tt
@@ -27,7 +27,7 @@ pub either_part : (a b c d : Bool) → (a ≡ true → c ≡ true) → (b ≡ tr
 either_part true b c d f g e = or_left c d (f refl)
 either_part false b c d f g e = or_right c d (g e)
 
--- the faults of fields are of their octets
+-- the errors of fields are errors of their octets
 after_of_octets : (rest : ℕ → List ℕ → Result (List ℕ) ErrorKind) (p : ℕ) (octets : List ℕ) → ((p : ℕ) (c : List ℕ) → IsOfOctets (rest p c)) → (r : Result (ℕ × List ℕ) ErrorKind) → IsOfOctets r → IsOfOctets (after_field rest p octets r)
 after_of_octets rest p octets others (Err k) h = h
 after_of_octets rest p octets others (Ok (n, first)) h = join_of_octets first (rest (p + n) (drop n octets)) (others (p + n) (drop n octets))
@@ -39,7 +39,7 @@ pub end_of_octets : (rules : EncodingRules) (p : ℕ) (octets : List ℕ) → Is
 end_of_octets rules p [] = tt
 end_of_octets rules p (z ∷ left) = refl
 
--- a front that is parsed, and then the others
+-- a first part that is parsed, and then the others
 pub parse_both : (first : Parse) (rest : ContentsParse) (rules : EncodingRules) (p : ℕ) (c x y d e : List ℕ) → c ≡ x ++ y → first rules p (x ++ y) ≡ Ok (length x, d) → rest rules (p + length x) y ≡ Ok e → parse_field first rest rules p c ≡ Ok (d ++ e)
 parse_both first rest rules p c x y d e whole one others =
     ap (parse_field first rest rules p) whole
@@ -54,7 +54,7 @@ same_lengths a b c x y whole first rest = omega (arith, length-append a b, lengt
 begins_other : (tags : Tag → Bool) {t : Tag} {x : List ℕ} → BeginsWithTag t x → tags t ≡ false → BeginsWith tags false x
 begins_other tags {t} {x} l e = record { tag = t; others = l.others; octets_are = l.octets_are; is_tag = l.is_tag; is_one = e }
 
--- where a field is told from what follows, its octets are
+-- if a field is distinguished from what follows, so are its octets
 follows : (tags : Tag → Bool) (first_tag next : Option Tag) (b x : List ℕ) → BeginsWithFirst first_tag b → BeginsWithFirst next x → Distinguished tags first_tag next → MayFollow tags b x
 follows tags (Some t) next b x k l h = follows_some tags b x (begins_with_tag_some k)
 follows tags None next (z ∷ b) x k l h = tt

@@ -1,4 +1,4 @@
--- What holds of a list of fields, from what holds of its first field and of the list after it: so it is told of a long list in one step.
+-- Properties of a list of fields, from those of its first field and of the list after it, so that a long list takes one step.
 use Rattle.std.proofs.Common.{◌≡◌, List, Bool, true, false, ◌&&◌, Option, Some, IsTrue, ◌↔◌}
 use Rattle.std.proofs.lemmas.Bool.{and_parts, and_from}
 use Rattle.der_tlv.specs.declared.tag.Tag.{Tag}
@@ -15,11 +15,11 @@ use Rattle.der_fields.specs.FieldLists.{Distinguished}
 use Rattle.der_fields.specs.FieldsFormat.{FieldsFormat}
 use Rattle.der_fields.specs.DistinguishingLaws.{starts_both, distinguished, eq_both}
 
--- what holds of the first field, and what holds of those after it
+-- one condition for the first field, and one for the fields after it
 abbrev pub each : {T U : Type 0} → (T → Type 0) → (U → Type 0) → Field T U → Type 0
 each one others v = one v.first × others v.rest
 
--- the same of two values
+-- one condition for two first fields, and one for the fields after them
 abbrev pub both : {T U : Type 0} → (T → T → Type 0) → (U → U → Type 0) → Field T U → Field T U → Type 0
 both one others v w = one v.first w.first × others v.rest w.rest
 
@@ -27,12 +27,12 @@ both one others v w = one v.first w.first × others v.rest w.rest
 abbrev pub equal_fields : {T U : Type 0} → (T → T → Bool) → (U → U → Bool) → Field T U → Field T U → Bool
 equal_fields one others v w = one v.first w.first && others v.rest w.rest
 
--- the tags that a list may begin with, none where any tag may, and whether its fields are told from what follows them
+-- the tags that a list may begin with, `None` if any tag may, and whether its fields are distinguished from what follows them
 pub record ListTags : Type 0 where
   pub first : Option (List Tag)
   pub are_distinct : Bool
 
--- the tags of a list, by its two ghosts
+-- the tags of a list, from its two ghosts
 abbrev pub list_tags : Option (List Tag) → Bool → ListTags
 list_tags first are_distinct = record { first = first; are_distinct = are_distinct }
 
@@ -47,12 +47,12 @@ tags_after may_be_absent known others = record {
 pub record ListStarts {T : Type 0} (G : FieldsFormat T) : Type 0 where
   pub starts : (v : T) → Starts (G.first_tag v) (G.octets.contents v)
 
--- fields are equal exactly where their octets are
+-- fields are equal exactly if their octets are
 pub record ListEquality {T : Type 0} (G : FieldsFormat T) (eq : T → T → Bool) : Type 0 where
   pub starts : ListStarts G
   pub equal : (v w : T) → G.octets.comparable v w → IsTrue (eq v w) ↔ (G.octets.contents v ≡ G.octets.contents w)
 
--- a copy of fields is as they are
+-- a copy of fields has the properties of the fields
 pub record ListCopies {T : Type 0} (G : FieldsFormat T) (are_copies : T → T → Type 0) : Type 0 where
   pub starts : ListStarts G
   pub joined : (v w : T) → are_copies v w → G.octets.contents w ≡ G.octets.contents v
@@ -69,7 +69,7 @@ pub record ListDistinct {T : Type 0} (G : FieldsFormat T) (tags : ListTags) (eac
   pub readable : tags.are_distinct ≡ true → (v : T) → each_readable v → G.octets.readable v
   pub comparable : tags.are_distinct ≡ true → (v w : T) → each_comparable v w → G.octets.comparable v w
 
--- the list after the last field that a step tells
+-- the list after the last field of a step
 module _ {T : Type 0} (G : FieldsFormat T) (starts : (v : T) → Starts (G.first_tag v) (G.octets.contents v)) where
   pub rest_starts : ListStarts G
   rest_starts = record { starts = starts }

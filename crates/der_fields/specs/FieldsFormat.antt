@@ -1,4 +1,4 @@
--- What the octets of the fields of a SEQUENCE mean: their encodings stand one after another (X.690 8.9).
+-- The meaning of the octets of the fields of a SEQUENCE: their encodings are one after another (X.690 8.9).
 use Rattle.std.specs.Prelude.{List, ℕ, Option}
 use Rattle.der_tlv.specs.declared.encoding_rules.EncodingRules.{EncodingRules}
 use Rattle.der_tlv.specs.declared.tag.Tag.{Tag}

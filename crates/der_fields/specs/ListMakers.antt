@@ -1,4 +1,4 @@
--- What the octets of a list of fields mean.
+-- The meaning of the octets of a list of fields.
 use Rattle.std.specs.Prelude.{◌≡◌, [], ◌++◌, true, false, ◌||◌, None, length, refl}
 use Rattle.std.proofs.Common.{ap, sym}
 use Rattle.der_elem.specs.declared.form.Form as form
@@ -9,7 +9,7 @@ use Rattle.der_fields.specs.FieldsFormat.{FieldsFormat}
 use Rattle.der_fields.specs.FieldLists.{AcceptsField, Distinguished, first_tag_or_next, parse_field, parse_end}
 use Rattle.der_fields.specs.FieldLaws.{field_of_octets, end_of_octets, parse_of_field, begins_first_field, same_length_field, accepts_field_joined, readable_field, all_comparable_field, re_read_field}
 
--- a field, and those after it: the octets are those of the field and then those of the others
+-- a field, and the fields after it: the octets are those of the field and then those of the others
 abbrev pub field_list : {T U : Type 0} → form.Ghosts T → FieldsFormat U → FieldsFormat (Field T U)
 field_list F G = record {
   octets = record {
@@ -59,7 +59,7 @@ end_list = record {
   begins_first = λ rules v c a. a;
 }
 
--- a struct of one's own that is seen as a list of fields
+-- a user's own struct that is seen as a list of fields
 abbrev pub part_of : {T U : Type 0} → (T → U) → FieldsFormat U → FieldsFormat T
 part_of list_of G = record {
   octets = mapped_format list_of G.octets;

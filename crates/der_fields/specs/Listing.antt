@@ -1,9 +1,9 @@
--- Values of lists of fields, as which a struct of one's own is seen.
+-- Lists of fields that a user's own struct is seen as.
 use Rattle.der_fields.specs.declared.field.Field.{Field}
 use Rattle.der_fields.specs.declared.end.End.{End}
 use Rattle.der_fields.specs.declared.with_default.WithDefault.{WithDefault}
 
--- a field, and the list of those after it
+-- a field, and the list of the fields after it
 abbrev pub field : {T Rest : Type 0} → T → Rest → Field T Rest
 field first rest = record { first = first; rest = rest }
 

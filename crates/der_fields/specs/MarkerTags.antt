@@ -5,7 +5,7 @@ use Rattle.der_tlv.specs.declared.tag.Tag.{Tag}
 use Rattle.der_tlv.specs.declared.tag.Tag.TheVariants.{Application, ContextSpecific, Private}
 use Rattle.der_tlv.specs.TagParts.{IsTag}
 
--- the number, of those that 32 bits hold
+-- the number if it is below 2^32, otherwise 0
 abbrev pub tag_number : ℕ → ℕ
 tag_number n = if nat_lt n (2 ^ 32) then n else 0
 

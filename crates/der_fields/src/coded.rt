@@ -1,4 +1,4 @@
-//! Reading and writing the fields of a SEQUENCE.
+//! Decoding and encoding the fields of a SEQUENCE.
 
 ghost use Rattle.std.specs.Prelude.{◌≡◌, Bool};
 ghost use Rattle.der_elem.specs.Encoding.{Encodes, Measures};
@@ -9,54 +9,54 @@ use crate::field_list::FieldList;
 use der_tlv::{BackWriter, Error, Length, Source, Writer};
 use std::alloc::Global;
 
-/// Reading fields from all of the octets that a reader shows.
+/// Decoding of fields from all octets of a reader.
 pub trait DecodeFields<'a, R: Source<'a>>: FieldList {
     ghost TAKES_MEMORY: { Bool };
 
-    /// Whether reading the fields takes memory.
+    /// Whether decoding the fields takes memory.
     const TAKES_MEMORY: bool;
 
-    /// Reads the fields from all of the octets that the reader shows.
+    /// Reads the fields from all octets of the reader.
     ///
     /// # Errors
-    /// `ErrorKind::Failed` (17) on a failed reader; the first fault of the fields, in their order;
-    /// `ErrorKind::TrailingData` (3) where octets are left over; `ErrorKind::Memory` (1) where a
-    /// field takes memory.
+    /// `ErrorKind::Failed` (17) on a failed reader; the first error of the fields, in their
+    /// order; `ErrorKind::TrailingData` (3) if octets are left over; `ErrorKind::Memory` (1) if a
+    /// field takes memory and none is left.
     fn decode_fields(alloc: Global, reader: &mut R) -> Result<Self, Error>
         ensures { DecodesFields Self.list (R.state reader.old) (R.state reader.new) result };
 
     ghost takes_memory_is: { Self.DecodeFields.TAKES_MEMORY ≡ Self.list.octets.TAKES_MEMORY };
 }
 
-/// Writing fields.
+/// Encoding of fields.
 pub trait EncodeFields: FieldList {
-    /// How many octets the fields have.
+    /// Returns the number of octets of the fields.
     ///
     /// # Errors
-    /// `ErrorKind::Overflow` (9) where there are more than 4294967295; `ErrorKind::Memory` (1)
-    /// where items are read again.
+    /// `ErrorKind::Overflow` (9) if there are more than 4294967295; `ErrorKind::Memory` (1) if
+    /// items are read again and no memory is left.
     fn fields_len(&self) -> Result<Length, Error>
         ensures { Measures (Self.list.octets.contents self.now) (Self.list.octets.re_reads self.now) result };
 
     /// Writes the fields.
     ///
     /// # Errors
-    /// The writer's; `ErrorKind::Overflow` (9) where there are more than 4294967295;
-    /// `ErrorKind::Memory` (1) where items are read again.
+    /// The error of the writer; `ErrorKind::Overflow` (9) if there are more than 4294967295
+    /// octets; `ErrorKind::Memory` (1) if items are read again and no memory is left.
     fn encode_fields<W: Writer>(&self, writer: &mut W) -> Result<(), Error>
         ensures { Encodes (Self.list.octets.contents self.now) (Self.list.octets.re_reads self.now) (W.state writer.old)
             (W.state writer.new) result };
 
-    /// Writes the fields before what the writer holds, from the last.
+    /// Writes the fields before the octets that the writer holds, from last to first.
     ///
     /// # Errors
-    /// `ErrorKind::Memory` (1) where items are read again.
+    /// `ErrorKind::Memory` (1) if items are read again and no memory is left.
     fn encode_fields_back<W: BackWriter>(&self, writer: &mut W) -> Result<(), Error>
         requires { HasRoom (Self.list.octets.contents self.now) (W.state writer.old) }
         ensures { PutsBack (Self.list.octets.contents self.now) (Self.list.octets.re_reads self.now) (W.state writer.old)
             (W.state writer.new) result }
     {
-        // the room is a length, so a length says how many octets have it
+        // the free space is a length, so the number of octets that fit is a length
         let _room = writer.room().value();
         let len = self.fields_len()?;
         writer.open_gap(len);

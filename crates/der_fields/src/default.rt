@@ -1,7 +1,8 @@
-//! DEFAULT: the value that a field has where it is absent (X.680 25.9, X.690 11.5).
+//! DEFAULT: the value of an absent field (X.680 25.9, X.690 11.5).
 //!
-//! A default is named by a type: `DefaultFalse` is that of `BOOLEAN DEFAULT FALSE`, `DefaultNumber<0>`
-//! that of `INTEGER DEFAULT 0`, also after a tag, as of a version `[0] EXPLICIT INTEGER DEFAULT v1`.
+//! A type names a default: `DefaultFalse` is the default of `BOOLEAN DEFAULT FALSE`, and
+//! `DefaultNumber<0>` that of `INTEGER DEFAULT 0`. Both are also defaults of a field with a tag,
+//! such as a version `[0] EXPLICIT INTEGER DEFAULT v1`.
 
 ghost use Rattle.std.specs.Prelude.{◌≡◌, List, ℕ, true, false};
 ghost use Rattle.der_tlv.specs.HeaderOctets.{tlv};
@@ -22,12 +23,12 @@ pub trait DefaultOf<T: Form> {
     // the default's own encoding
     ghost octets: { List ℕ };
 
-    /// The default.
+    /// Returns the default.
     fn default_value() -> T
         ensures encoding { T.encoding result ≡ octets }
         ensures readable { T.readable result };
 
-    /// Whether this is the default.
+    /// Returns whether the value is the default.
     fn is_default(value: &T) -> bool
         ensures { result ≡ is_default octets (T.encoding value.now) };
 }
@@ -60,7 +61,7 @@ impl<const CLASS: u8, const NUMBER: u32> DefaultOf<ImplicitIn<bool, CLASS, NUMBE
     }
 }
 
-/// The default of `INTEGER DEFAULT NUMBER`, of numbers up to 255.
+/// The default of `INTEGER DEFAULT NUMBER`, for numbers up to 255.
 pub struct DefaultNumber<const NUMBER: u8>;
 
 impl<const NUMBER: u8> DefaultOf<u8> for DefaultNumber<NUMBER> {

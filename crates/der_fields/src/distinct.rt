@@ -12,10 +12,10 @@ use crate::field::Field;
 use crate::field_list::FieldList;
 use der_elem::{FirstTag, KnownTags};
 
-/// Fields of which the tags are known, so that it is told by computing whether they are distinct:
-/// whether each field that may be absent has none of the tags of those that may follow it.
+/// Fields whose tags are known, so that a computation decides whether they are distinct: whether
+/// each field that may be absent has none of the tags of the fields that may follow it.
 pub trait DistinctTags: FieldList {
-    // the tags that the joined encodings may begin with; none where any tag may
+    // the tags that the joined encodings may begin with; `None` if any tag may
     ghost first_tags: { Option (List Tag) };
 
     // whether the tags are distinct

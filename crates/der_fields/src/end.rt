@@ -1,6 +1,6 @@
 //! The end of a list of fields: no octets.
 //!
-//! Reading refuses octets that are left over (3).
+//! Decoding fails on octets that are left over (3).
 
 ghost use Rattle.std.specs.Prelude.{◌≡◌, false, None, refl};
 ghost use Rattle.der_fields.specs.ListMakers.{end_list};

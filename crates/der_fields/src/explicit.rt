@@ -1,9 +1,10 @@
-//! Explicit tagging with a class and a number that are known in the type (X.690 8.14.2).
+//! Explicit tagging. The type knows the class and the number of the tag (X.690 8.14.2).
 //!
-//! The tag is constructed, and the contents octets are the whole encoding of the value: [1] of the
-//! INTEGER 5 is encoded as A1 03 02 01 05. A list of fields may stand in place of the value.
+//! The tag is constructed, and the contents octets are the whole encoding of the value: [1] of
+//! the INTEGER 5 is encoded as A1 03 02 01 05. The value may also be a list of fields.
 //!
-//! Reading refuses another tag (4), the value's faults, and octets left over after it (3).
+//! Decoding fails on another tag (4), with the errors of the value, and on octets left over after
+//! it (3).
 
 ghost use Rattle.std.specs.Prelude.{◌≡◌};
 ghost use Rattle.der_elem.specs.FormatMakers.{mapped_format};
@@ -25,8 +26,8 @@ use std::alloc::Global;
 use std::cmp::Ordering;
 use std::ops::Deref;
 
-/// Fields after a constructed tag of this class with this number. The class is bits 8 and 7 of the
-/// identifier. Only the names below give it outside this crate, so it is application (1),
+/// Fields after a constructed tag of this class with this number. The class is bits 8 and 7 of
+/// the identifier. Other crates only get it by the names below, so it is application (1),
 /// context-specific (2) or private (3).
 #[derive(Clone, Copy, Debug, PartialEq, Eq, Drop)]
 pub struct ExplicitIn<F, const CLASS: u8, const NUMBER: u32> {
@@ -48,7 +49,7 @@ impl<T, const CLASS: u8, const NUMBER: u32> Deref for ExplicitIn<Field<T, End>, 
 
     ghost deref_gives = { λ tagged value. value ≡ tagged.fields.first };
 
-    /// The value after the tag.
+    /// Returns the value after the tag.
     fn deref(&self) -> &T {
         &self.fields.first
     }

@@ -1,8 +1,8 @@
-//! A field of a SEQUENCE, and those after it.
+//! A field of a SEQUENCE, and the fields after it.
 //!
-//! The octets are those of the field and then those of the others. A field that is absent is told
-//! from what follows it: nothing follows, or a tag that none of its encodings begins with. Values of
-//! which that does not hold are read from no octets.
+//! The octets are those of the field, and then those of the fields after it. A field is absent if
+//! nothing follows, or if the next tag is one that none of its encodings begins with. A value
+//! whose fields cannot be distinguished in this way is not read from any octets.
 
 ghost use Rattle.std.specs.Prelude.{◌≡◌, ◌||◌};
 ghost use Rattle.der_fields.specs.ListMakers.{field_list};
@@ -25,17 +25,17 @@ use der_tlv::{BackWriter, Error, Length, Source, Tag, Writer};
 use std::alloc::Global;
 use std::cmp::Ordering;
 
-/// A field, and those after it.
+/// A field, and the fields after it.
 #[derive(Clone, Copy, Debug, PartialEq, Eq, Drop)]
 pub struct Field<T, Rest> {
     /// The field.
     pub first: T,
-    /// Those after it.
+    /// The fields after it.
     pub rest: Rest,
 }
 
 impl<T, Rest> Field<T, Rest> {
-    /// This field, and those after it.
+    /// Creates a list of this field and the fields after it.
     pub fn new(first: T, rest: Rest) -> Field<T, Rest>
         ensures { result ≡ field first rest }
     {

@@ -1,12 +1,12 @@
-//! What the octets of a list of fields mean.
+//! The meaning of the octets of a list of fields.
 
 ghost use Rattle.der_fields.specs.FieldsFormat.{FieldsFormat};
 
-/// The fields of a SEQUENCE, whose encodings stand one after another (X.690 8.9).
+/// The fields of a SEQUENCE, whose encodings are one after another (X.690 8.9).
 ///
-/// `End` and `Field` are lists. A struct of one's own that has a list as its one member may be one
-/// too (`part_of` of `specs/ListMakers.antt`): so a long list is kept in parts.
+/// `End` and `Field` are lists. A user's struct whose one member is a list may be one too
+/// (`part_of` of `specs/ListMakers.antt`). So a long list is kept in parts.
 pub trait FieldList: Sized + Drop {
-    // what the octets of the fields mean
+    // the meaning of the octets of the fields
     ghost list: { FieldsFormat Self };
 }

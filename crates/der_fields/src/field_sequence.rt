@@ -1,10 +1,10 @@
 //! SEQUENCE of a list of fields (X.690 8.9, X.680 25).
 //!
-//! The tag is 30. The contents octets are the encodings of the fields that are there, one after
+//! The tag is 30. The contents octets are the encodings of the fields that are present, one after
 //! another: the fields 5 and `true` are encoded as 30 06 02 01 05 01 01 FF.
 //!
-//! Reading refuses with the first fault of the fields, in their order, and then octets that are left
-//! over (`ErrorKind::TrailingData`, 3). The order of two values is that of their encodings.
+//! Decoding fails with the first error of the fields, in their order, and then on octets that are
+//! left over (`ErrorKind::TrailingData`, 3). The order of two values is that of their encodings.
 
 ghost use Rattle.std.specs.Prelude.{refl};
 ghost use Rattle.der_elem.specs.Decoding.{ReadsAll};
@@ -24,7 +24,7 @@ use der_tlv::{BackWriter, Error, Header, Length, SliceReader, Source, Writer};
 use std::alloc::Global;
 use std::cmp::Ordering;
 
-/// A SEQUENCE of these fields, in their order.
+/// A SEQUENCE of these fields in their order.
 #[derive(Clone, Copy, Debug, PartialEq, Eq, Drop)]
 pub struct FieldSequence<F> {
     /// The fields.
@@ -105,14 +105,15 @@ impl<F: DuplicateFieldsAreEqual> DuplicateValueIsEqual for FieldSequence<F> {
     ghost copy_value_is_equal = { λ v w. F.copies_are_equal v.fields w.fields };
 }
 
-/// Reads a SEQUENCE of these fields: all of the octets, under DER.
+/// Reads a SEQUENCE of these fields from all of the octets, under DER.
 ///
-/// It is `from_der`, proved once for every list, so that a call at a long list is checked sooner.
+/// It is `from_der`, proved once for every list, so that the prover checks a call at a long list
+/// sooner.
 ///
 /// # Errors
-/// The first fault of the octets, in the order of the fields; `ErrorKind::TrailingData` (3) where
-/// octets are left over; `ErrorKind::Overflow` (9) where there are more than 4294967295;
-/// `ErrorKind::Memory` (1) where a type that takes memory has none.
+/// The first error of the octets, in the order of the fields; `ErrorKind::TrailingData` (3) if
+/// octets are left over; `ErrorKind::Overflow` (9) if there are more than 4294967295;
+/// `ErrorKind::Memory` (1) if a type takes memory and memory runs out.
 pub fn read_sequence<'a, F: DecodeFields<'a, SliceReader<'a>>>(
     alloc: Global,
     bytes: &'a [u8],
@@ -122,13 +123,13 @@ pub fn read_sequence<'a, F: DecodeFields<'a, SliceReader<'a>>>(
     FieldSequence::<F>::from_der(alloc, bytes)
 }
 
-/// The one encoding of a SEQUENCE of these fields.
+/// Writes the one encoding of a SEQUENCE of these fields.
 ///
 /// It is `to_der`, proved once for every list.
 ///
 /// # Errors
-/// `ErrorKind::Memory` (1) where memory runs out; `ErrorKind::Overflow` (9) where there are more
-/// than 4294967295 octets.
+/// `ErrorKind::Memory` (1) if memory runs out; `ErrorKind::Overflow` (9) if there are more than
+/// 4294967295 octets.
 pub fn write_sequence<F: EncodeFields>(
     alloc: Global,
     value: &FieldSequence<F>,

@@ -1,9 +1,10 @@
-//! Implicit tagging with a class and a number that are known in the type (X.690 8.14.3).
+//! Implicit tagging. The type knows the class and the number of the tag (X.690 8.14.3).
 //!
-//! The tag stands in place of the value's own, and is constructed where that is; the contents octets
-//! are the value's: [1] of the INTEGER 5 is encoded as 81 01 05.
+//! The tag replaces the value's own tag, and is constructed if that one is. The contents octets
+//! are those of the value: [1] of the INTEGER 5 is encoded as 81 01 05.
 //!
-//! Reading refuses another tag, also that of the other form, (4), and the contents' faults.
+//! Decoding fails on another tag (4), also on the tag of the other form, and with the errors of
+//! the contents octets.
 
 ghost use Rattle.std.specs.Prelude.{◌≡◌};
 ghost use Rattle.der_elem.specs.FormatMakers.{mapped_format};
@@ -18,9 +19,9 @@ use std::alloc::Global;
 use std::cmp::Ordering;
 use std::ops::Deref;
 
-/// A value after a tag of this class with this number in place of its own. The class is bits 8 and 7
-/// of the identifier. Only the names below give it outside this crate, so it is application (1),
-/// context-specific (2) or private (3).
+/// A value whose own tag is replaced by a tag of this class with this number. The class is bits 8
+/// and 7 of the identifier. Other crates only get it by the names below, so it is application
+/// (1), context-specific (2) or private (3).
 #[derive(Clone, Copy, Debug, PartialEq, Eq, Drop)]
 pub struct ImplicitIn<T, const CLASS: u8, const NUMBER: u32> {
     /// The value.
@@ -41,7 +42,7 @@ impl<T, const CLASS: u8, const NUMBER: u32> Deref for ImplicitIn<T, CLASS, NUMBE
 
     ghost deref_gives = { λ tagged value. value ≡ tagged.value };
 
-    /// The value after the tag.
+    /// Returns the value after the tag.
     fn deref(&self) -> &T {
         &self.value
     }

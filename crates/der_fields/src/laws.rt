@@ -1,4 +1,4 @@
-//! Laws of lists of fields: functions that do nothing, and promise what holds of all values.
+//! Laws of lists of fields: functions that do nothing and state what holds for all values.
 
 ghost use Rattle.std.specs.Prelude.{◌≡◌, ◌↔◌, IsTrue, ◌<◌, ◌^◌, length, true};
 ghost use Rattle.der_elem.specs.EncodingLaws.{OwnEncodingIsRead};
@@ -13,16 +13,17 @@ use crate::one_of::OneOf;
 use der_elem::laws::{equal_encodings, own_encoding_is_read};
 use der_elem::{Form, KnownTags, Tagged};
 
-/// Reading can give a list whose tags are distinct where it can give each of its fields, and two such
-/// lists are compared where their fields are.
+/// If a list has distinct tags, decoding can return it if decoding can return each of its fields,
+/// and two such lists are comparable if their fields are.
 pub fn distinct_tags_distinguish_fields<F: DistinctTags>()
     requires { F.TAGS_ARE_DISTINCT ≡ true }
     ensures readable { (v : F) → F.each_readable v → F.list.octets.readable v }
     ensures comparable { (v w : F) → F.each_comparable v w → F.list.octets.comparable v w }
 {}
 
-/// A SEQUENCE whose fields have distinct tags: its encoding is read as it where that has at most
-/// 4294967295 octets, and `==` is equality of encodings. The premise is that of the fields alone.
+/// A SEQUENCE whose fields have distinct tags is decoded from its own encoding if that has at
+/// most 4294967295 octets, and `==` is equality of encodings. The premise is that of the fields
+/// alone.
 pub fn sequence_is_read_back<F: DistinctTags + FieldsEq>()
     requires { F.TAGS_ARE_DISTINCT ≡ true }
     ensures read { (v : FieldSequence F) → F.each_readable v.fields
@@ -37,8 +38,9 @@ pub fn sequence_is_read_back<F: DistinctTags + FieldsEq>()
     equal_encodings::<FieldSequence<F>>();
 }
 
-/// Reading can give a CHOICE of alternatives with distinct tags (X.680 29.3) where it can give the
-/// alternative, and any two values are compared unless the one alternative of both forbids it.
+/// Decoding can return a CHOICE of alternatives with distinct tags (X.680 29.3) if it can return
+/// the alternative. Any two values are comparable, unless both are of one alternative whose
+/// values are not.
 pub fn distinct_tags_distinguish_alternatives<A: Tagged + KnownTags, B: Tagged + KnownTags>()
     requires { are_distinct A.known_tags B.known_tags ≡ true }
     ensures readable { (v : OneOf A B) → AskedOfOne A.readable B.readable v
@@ -47,7 +49,7 @@ pub fn distinct_tags_distinguish_alternatives<A: Tagged + KnownTags, B: Tagged +
         → ⟦<OneOf<A, B> as Form>⟧.comparable v w }
 {}
 
-/// A SEQUENCE with named fields that have distinct tags: as for `sequence_is_read_back`.
+/// A SEQUENCE with named fields that have distinct tags, as in `sequence_is_read_back`.
 pub fn named_sequence_is_read_back<S: NamedFields>()
 where
     S::List: DistinctTags + FieldsEq,

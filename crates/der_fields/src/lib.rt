@@ -1,10 +1,10 @@
-//! A SEQUENCE of one's own, from the list of its fields (X.690 8.9, X.680 25).
+//! A user's own SEQUENCE, from the list of its fields (X.690 8.9, X.680 25).
 //!
-//! A list of fields is written `Field<A, Field<B, End>>`, and the SEQUENCE of it is
+//! A list of fields is written `Field<A, Field<B, End>>`, and its SEQUENCE is
 //! `FieldSequence<Field<A, Field<B, End>>>`. A field is any value of the layer: `Option<T>` is
 //! OPTIONAL, `WithDefault<T, D>` has a DEFAULT, `Explicit<T, 0>` and `Implicit<T, 0>` have a
-//! context-specific tag. What holds of every list is proved once here: a user's type is an alias,
-//! with no law of its own.
+//! context-specific tag. The laws of all lists are proved once, here: a user's type is an alias
+//! and needs no law of its own.
 //!
 //! ```rust
 //! type Limit = FieldSequence<Field<bool, Field<Option<u8>, End>>>;

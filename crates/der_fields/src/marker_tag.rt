@@ -1,4 +1,4 @@
-//! Tags of the application, the context-specific and the private class with a number that is known in
+//! Tags of the application, the context-specific and the private class, whose number is known in
 //! the type (X.690 8.14).
 
 ghost use Rattle.std.specs.Prelude.{true};
@@ -9,9 +9,9 @@ use der_elem::TagMarker;
 use der_tlv::{Tag, TagNumber};
 use std::marker::PhantomData;
 
-/// The constructed tag of this class with this number. The class is bits 8 and 7 of the identifier. Only
-/// the names below give it outside this crate, so it is application (1), context-specific (2) or
-/// private (3).
+/// The constructed tag of this class with this number. The class is bits 8 and 7 of the
+/// identifier. Other crates only get it by the names below, so it is application (1),
+/// context-specific (2) or private (3).
 pub struct ExplicitTagIn<const CLASS: u8, const NUMBER: u32>;
 
 /// The tag of `[NUMBER] EXPLICIT`.
@@ -46,8 +46,8 @@ impl<const CLASS: u8, const NUMBER: u32> TagMarker for ExplicitTagIn<CLASS, NUMB
     ghost tag_in_range = { marker_tag-in_range CLASS true NUMBER };
 }
 
-/// The tag of this class with this number, which is constructed where the marked tag is. The class is
-/// numbered as that of `ExplicitTagIn`.
+/// The tag of this class with this number, which is constructed if the marked tag is. The class
+/// has the numbers of `ExplicitTagIn`.
 pub struct ImplicitTagIn<M, const CLASS: u8, const NUMBER: u32> {
     of: PhantomData<M>,
 }

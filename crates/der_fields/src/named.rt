@@ -1,10 +1,10 @@
-//! SEQUENCE of the fields of a struct of one's own, with names of their own (X.690 8.9, X.680 25).
+//! SEQUENCE of the fields of a user's own struct, with names (X.690 8.9, X.680 25).
 //!
-//! The tag is 30. The contents octets are those of the list of the fields, and so is the first fault
-//! in reading, and the order: as of a `FieldSequence`.
+//! The tag is 30. The contents octets, the first error in decoding, and the order are those of
+//! the list of the fields, as for a `FieldSequence`.
 //!
-//! The fields are copied where a value is written, compared or told equal; so they are small, as
-//! borrowed values are.
+//! The fields are copied when a value is written, compared or tested for equality. So they are
+//! small, as borrowed values are.
 
 ghost use Rattle.std.specs.Prelude.{◌≡◌, refl};
 ghost use Rattle.std.specs.Cmp.{on_per, on_equiv};
@@ -25,29 +25,30 @@ use der_tlv::{BackWriter, Error, Header, Length, SliceReader, Source, Writer};
 use std::alloc::Global;
 use std::cmp::Ordering;
 
-/// A struct of one's own whose members are the fields of a SEQUENCE.
+/// A user's own struct whose members are the fields of a SEQUENCE.
 ///
-/// The list of the fields, as of a `FieldSequence`, says what octets they have; the struct says their
-/// names. `list_of` is the list of a value, which `field`, `with_default` and `end` of
-/// `specs/Listing.antt` write.
+/// The list of the fields, as in a `FieldSequence`, determines their octets; the struct gives
+/// them names. `list_of` is the list of a value. It is written with `field`, `with_default` and
+/// `end` of `specs/Listing.antt`.
 pub trait NamedFields: Sized + Drop {
     /// The list of the fields.
     type List: FieldList;
 
-    // the list as which a value is seen
+    // the list that a value is seen as
     ghost list_of: { Self → Self.List };
 
-    /// The struct of these fields.
+    /// Creates the struct from these fields.
     fn of_list(list: &Self::List) -> Self
         ensures { list_of result ≡ list.now };
 
-    /// The fields of the struct.
+    /// Returns the fields of the struct.
     fn to_list(&self) -> Self::List
         ensures { result ≡ list_of self.now };
 }
 
-/// The struct of a list's fields, as the body of `of_list`: `from_list!(list => Name { a, default b })`
-/// names them in their order, and says `default` before one with a DEFAULT.
+/// The body of `of_list`, which makes a struct of a list:
+/// `from_list!(list => Name { a, default b })` names the fields in their order. `default` is before
+/// a field with a DEFAULT.
 #[macro_export]
 macro_rules! from_list {
     (@ $name:ident, $at:expr, { $($done:tt)* };) => {
@@ -64,7 +65,7 @@ macro_rules! from_list {
     };
 }
 
-/// The list of a struct's fields, as the body of `to_list`: `to_list!(self => a, default b)`.
+/// The body of `to_list`, which makes a list of a struct: `to_list!(self => a, default b)`.
 #[macro_export]
 macro_rules! to_list {
     ($value:expr =>) => {
@@ -81,7 +82,7 @@ macro_rules! to_list {
     };
 }
 
-/// A SEQUENCE of the fields of a struct of one's own, which stand in its member `fields`.
+/// A SEQUENCE of the fields of a user's own struct, which is the member `fields`.
 #[derive(Clone, Copy, Debug, Drop)]
 pub struct NamedSequence<S> {
     /// The fields.
@@ -205,14 +206,15 @@ where
         (S.list_of w.fields) };
 }
 
-/// Reads a SEQUENCE with these fields: all of the octets, under DER.
+/// Reads a SEQUENCE with these fields from all of the octets, under DER.
 ///
-/// It is `from_der`, proved once for every struct of fields, so that a call is checked sooner.
+/// It is `from_der`, proved once for every struct of fields, so that the prover checks a call
+/// sooner.
 ///
 /// # Errors
-/// The first fault of the octets, in the order of the fields; `ErrorKind::TrailingData` (3) where
-/// octets are left over; `ErrorKind::Overflow` (9) where there are more than 4294967295;
-/// `ErrorKind::Memory` (1) where a type that takes memory has none.
+/// The first error of the octets, in the order of the fields; `ErrorKind::TrailingData` (3) if
+/// octets are left over; `ErrorKind::Overflow` (9) if there are more than 4294967295;
+/// `ErrorKind::Memory` (1) if a type takes memory and memory runs out.
 pub fn read_named_sequence<'a, S: NamedFields>(
     alloc: Global,
     bytes: &'a [u8],
@@ -224,13 +226,13 @@ where
     NamedSequence::<S>::from_der(alloc, bytes)
 }
 
-/// The one encoding of a SEQUENCE with these fields.
+/// Writes the one encoding of a SEQUENCE with these fields.
 ///
 /// It is `to_der`, proved once for every struct of fields.
 ///
 /// # Errors
-/// `ErrorKind::Memory` (1) where memory runs out; `ErrorKind::Overflow` (9) where there are more
-/// than 4294967295 octets.
+/// `ErrorKind::Memory` (1) if memory runs out; `ErrorKind::Overflow` (9) if there are more than
+/// 4294967295 octets.
 pub fn write_named_sequence<S: NamedFields>(
     alloc: Global,
     value: &NamedSequence<S>,

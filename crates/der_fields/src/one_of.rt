@@ -1,12 +1,12 @@
-//! CHOICE: a value of one of two alternatives, which its tag tells (X.680 29).
+//! CHOICE: a value of one of two alternatives, which its tag selects (X.680 29).
 //!
-//! The encoding is that of the alternative, with no octets of its own (X.690 8.13): a CHOICE of an
-//! INTEGER and a BOOLEAN has 02 01 05 for the first's 5, and 01 01 FF for the other's `true`. Of more
-//! than two alternatives the other one is a CHOICE: `OneOf<A, OneOf<B, C>>`.
+//! The encoding is that of the alternative, with no octets of its own (X.690 8.13). In a CHOICE
+//! of an INTEGER and a BOOLEAN, 02 01 05 is 5 of the first, and 01 01 FF is `true` of the other.
+//! With more than two alternatives the other one is a CHOICE: `OneOf<A, OneOf<B, C>>`.
 //!
-//! Reading refuses with the next tag's faults, a tag that no alternative has (4, with none expected),
-//! and the faults of the alternative that has the tag. A value of the other alternative whose tag is
-//! one of the first's is read from no octets.
+//! Decoding fails with the errors of the next tag, on a tag that no alternative has (4, with no
+//! expected tag), and with the errors of the alternative that has the tag. A value of the other
+//! alternative whose tag is one of the first's tags is not read from any octets.
 
 ghost use Rattle.std.specs.Prelude.{◌||◌, ◌&&◌, false};
 ghost use Rattle.std.proofs.Common.{Ok, refl};
@@ -30,7 +30,7 @@ use std::cmp::Ordering;
 pub enum OneOf<A, B> {
     /// A value of the first alternative.
     First(A),
-    /// A value of the other, which may be a CHOICE of more.
+    /// A value of the other alternative, which may be another CHOICE.
     Other(B),
 }
 
@@ -76,8 +76,8 @@ impl<A: Form, B: Form> Form for OneOf<A, B> {
         A.re_reads_memory B.re_reads_memory };
 }
 
-/// The contents octets are those of the alternative. With no tag they do not tell which it is, so a
-/// CHOICE is read from whole encodings alone.
+/// The contents octets are those of the alternative. Without a tag they do not determine the
+/// alternative, so a CHOICE is decoded only from whole encodings.
 impl<A: FormValue, B: FormValue> FormValue for OneOf<A, B> {
     ghost value = { record (format_with_tags (of_one A.value.contents B.value.contents) (λ v t. Unit {0}) parse_without_tag (λ rules v p. refl) (λ rules p c. tt)) {
       re_reads = of_one A.value.re_reads B.value.re_reads;
@@ -230,11 +230,12 @@ impl<A: DerOrd + Tagged + EncodeValue, B: DerOrd + Tagged + EncodeValue> DerOrd 
     }
 }
 
-/// The order of the encodings of two values, where their tags or their lengths decide it.
+/// Compares the encodings of two values if their tags or their lengths decide the order.
 ///
 /// # Errors
-/// `ErrorKind::Value` (13) where both are equal; `ErrorKind::Overflow` (9) where a value has more
-/// than 4294967295 contents octets; `ErrorKind::Memory` (1) where items are read again.
+/// `ErrorKind::Value` (13) if both are equal; `ErrorKind::Overflow` (9) if a value has more than
+/// 4294967295 contents octets; `ErrorKind::Memory` (1) if items are read again and no memory is
+/// left.
 pub fn cmp_headers<A: Tagged + EncodeValue, B: Tagged + EncodeValue>(
     value: &A,
     other: &B,

@@ -1,4 +1,4 @@
-//! The order of the fields of a SEQUENCE, which is that of their joined encodings.
+//! The order of the fields of a SEQUENCE, which is the order of their joined encodings.
 
 ghost use Rattle.std.specs.Prelude.{◌≡◌};
 ghost use Rattle.der_elem.specs.FirstTags.{Starts};
@@ -10,7 +10,7 @@ use std::cmp::Ordering;
 
 /// The tag that the fields' joined encodings begin with.
 pub trait FieldsFirstTag: FieldList {
-    /// The tag that the first encoding begins with, if any field has octets.
+    /// Returns the tag that the first encoding begins with, if any field has octets.
     fn fields_first_tag(&self) -> Option<Tag>
         ensures { result ≡ Self.list.first_tag self.now };
 
@@ -19,16 +19,17 @@ pub trait FieldsFirstTag: FieldList {
 
 /// The order of fields.
 pub trait FieldsOrd: FieldList {
-    /// The lexicographic order of the joined encodings.
+    /// Compares the joined encodings lexicographically.
     ///
     /// # Errors
-    /// `ErrorKind::Overflow` (9) where one has more than 4294967295 octets, `ErrorKind::Value` (13)
-    /// where two are not comparable, `ErrorKind::Memory` (1) where one reads items again.
+    /// `ErrorKind::Overflow` (9) if one has more than 4294967295 octets, `ErrorKind::Value` (13)
+    /// if two are not comparable, `ErrorKind::Memory` (1) if one reads items again and no memory
+    /// is left.
     fn cmp_fields(&self, other: &Self) -> Result<Ordering, Error>
         ensures { ComparesFields Self.list self.now other.now result };
 }
 
-/// Whether both fields are there, or both absent.
+/// Returns whether both fields are present, or both absent.
 pub(crate) fn both_or_none(first: Option<Tag>, second: Option<Tag>) -> bool
     ensures { DecidesPresence first second result }
 {
@@ -40,7 +41,7 @@ pub(crate) fn both_or_none(first: Option<Tag>, second: Option<Tag>) -> bool
     }
 }
 
-/// The order of identifier octets, of which absent ones are less than any other.
+/// Compares identifier octets. Absent ones are less than any other.
 pub(crate) fn cmp_first_tags(first: Option<Tag>, second: Option<Tag>) -> Ordering
     ensures { result ≡ lex_first_tags first second }
 {

@@ -1,10 +1,10 @@
-//! A field with a DEFAULT, which has no octets where its value is the default (X.680 25, X.690 11.5).
+//! A field with a DEFAULT: the default has no octets (X.680 25, X.690 11.5).
 //!
 //! With DEFAULT FALSE the value `true` is encoded as 01 01 FF, and `false` as no octets.
 //!
-//! At the end of the SEQUENCE, and before a tag that none of the value's encodings begins with, the
-//! value is the default; the next tag's faults come first. Reading refuses with the value's faults,
-//! and the default's own encoding (`ErrorKind::Noncanonical`, 8).
+//! The value is the default at the end of the SEQUENCE and before a tag that none of the value's
+//! encodings begins with. The errors of the next tag come first. Decoding fails with the errors
+//! of the value, and on the default's own encoding (`ErrorKind::Noncanonical`, 8).
 
 ghost use Rattle.std.specs.Prelude.{◌≡◌, true};
 ghost use Rattle.std.specs.Cmp.{on_per, on_equiv};
@@ -23,7 +23,7 @@ use std::cmp::Ordering;
 use std::fmt;
 use std::marker::PhantomData;
 
-/// A value that has no octets where it is the default.
+/// A value that has no octets if it is the default.
 #[derive(Drop)]
 pub struct WithDefault<T, D> {
     /// The value.
@@ -33,7 +33,7 @@ pub struct WithDefault<T, D> {
 }
 
 impl<T, D> WithDefault<T, D> {
-    /// A field with this value.
+    /// Creates a field with this value.
     pub fn new(value: T) -> WithDefault<T, D>
         ensures { result.value ≡ value }
     {
@@ -58,7 +58,7 @@ impl<T: Clone, D> Clone for WithDefault<T, D> {
 impl<T: Copy, D> Copy for WithDefault<T, D> {}
 
 impl<T: fmt::Debug, D> fmt::Debug for WithDefault<T, D> {
-    /// The value, as it is shown by itself.
+    /// Writes the value, as it is shown by itself.
     fn fmt<W: fmt::Write>(&self, f: &mut fmt::Formatter<W>) -> fmt::Result {
         fmt::Debug::fmt(&self.value, f)
     }
@@ -86,7 +86,7 @@ impl<T: Form, D: DefaultOf<T>> Form for WithDefault<T, D> {
 
     ghost TAKES_MEMORY = { T.Form.TAKES_MEMORY };
 
-    // the value is read before it is told from the default
+    // the value is read before it is compared with the default
     ghost FAULTS_FIRST = { false };
 
     ghost parse_of_accepted = { λ rules v. parse_of_default T.Form D.octets rules v.value };

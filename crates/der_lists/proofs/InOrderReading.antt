@@ -1,4 +1,4 @@
--- Octets that are read item by item, each item's not less than those of the one before.
+-- Octets that are read item by item; the octets of an item are not less than those of the one before.
 use Rattle.std.proofs.Common.{◌≡◌, ℕ, suc, ◌+◌, ◌-◌, ◌<◌, ◌≤◌, ◌^◌, List, [], ◌∷◌, ◌++◌, length, take, drop, get_or, true, false, Ok, Err, refl, sym, ap, ◌∙◌, arith, inl, inr, subst, zero-add, add_assoc}
 use Rattle.std.specs.List.{concat}
 use Rattle.std.specs.List.Sorted.{IsSorted}
@@ -26,7 +26,7 @@ use Rattle.der_nest.specs.BorrowedLaws.{last_of, before_all, follow_in_order, pa
 use Rattle.der_lists.specs.SetsInOrder.{IsItem, InOrder, AcceptsInOrder, as_it_stands, parse_standing}
 use Rattle.der_lists.specs.SetsInOrderLaws.{few_parts, parts_parsed}
 
--- no octets are not greater than others
+-- empty octets are not greater than others
 none_above : (e : List ℕ) → is_gt (lex [] e) ≡ false
 none_above [] = refl
 none_above (x ∷ e) = refl
@@ -36,7 +36,7 @@ none_before octets before start e same =
     let n : start - before ≡ 0 = omega arith in
     ap (λ k. is_gt (lex (take k (drop before octets)) e)) n ∙ none_above e
 
--- the octets of the items that were read, in order, and those of the last
+-- the octets of the items that were read, in order, and those of the last item
 pub record InOrderSoFar {T : Type 0} (F : form.Ghosts T) (octets : List ℕ) (now : ReaderState) (last : List ℕ) : Type 0 where
   pub parts : List (List ℕ)
   pub taken : ℕ
@@ -59,7 +59,7 @@ last_of-push : (last : List ℕ) (es : List (List ℕ)) (e : List ℕ) → last_
 last_of-push last [] e = refl
 last_of-push last (f ∷ es) e = last_of-push f es e
 
--- the last of some is the one at the last place
+-- the last of a non-empty list is the one at the last index
 last_is_at : (first d : List ℕ) (es : List (List ℕ)) → get_or (first ∷ es) (length es) d ≡ last_of first es
 last_is_at first d [] = refl
 last_is_at first d (e ∷ es) = last_is_at e d es
@@ -105,19 +105,19 @@ module _ {T : Type 0} {F : form.Ghosts T} {octets : List ℕ} {now : ReaderState
       let item : F.accepts Der v (take told.taken (rest now)) = subst (λ r. F.accepts r v (take told.taken (rest now))) under_der told.accepted in
       record { item = v; accepted = item; some = nonempty v (take told.taken (rest now)) item }
 
-  -- the octets between where the reader stood and where it stands are the item's
+  -- the octets between the old and the new position of the reader are the octets of the item
   pub part_is : {new : ReaderState} {v : T} (told : Decoded F now new v) (bytes : List ℕ) (start end : ℕ) → bytes ≡ octets → start ≡ now.position → end ≡ new.position → take (end - start) (drop start bytes) ≡ take told.taken (rest now)
   part_is told bytes start end same from to =
       let n : end - start ≡ told.taken = omega (arith, ap (λ s. s.position) told.after) in
       ap (λ k. take k (drop start bytes)) n ∙ ap (λ b. take told.taken (drop start b)) same ∙ ap (λ k. take told.taken (drop k octets)) (from ∙ in_order_position) ∙ ap (take told.taken) (sym in_order_rest)
 
-  -- less is left behind one more item
+  -- fewer octets are left after one more item
   pub smaller_in_order : {new : ReaderState} {v : T} (nonempty : (v : T) (b : List ℕ) → F.accepts Der v b → 0 < length b) → 0 < length (rest now) → Decoded F now new v → length (rest new) < length (rest now)
   smaller_in_order {new} {v} nonempty some told =
       let long = (item_read nonempty told).some in
       omega (arith, length-take told.taken (rest now), ap (λ s. length (rest s)) told.after, ap length (rest-after_read now told.taken), length-drop told.taken (rest now))
 
-  -- with one more item
+  -- one more item is read
   pub one_more_in_order : {new : ReaderState} {v : T} (nonempty : (v : T) (b : List ℕ) → F.accepts Der v b → 0 < length b) → (told : Decoded F now new v) → (part : List ℕ) → part ≡ take told.taken (rest now) → is_gt (lex last part) ≡ false → InOrderSoFar F octets new part
   one_more_in_order {new} {v} nonempty told part is not_above =
       let n = told.taken in
@@ -140,7 +140,7 @@ module _ {T : Type 0} {F : form.Ghosts T} {octets : List ℕ} {now : ReaderState
     inside : s.taken ≤ length octets
     inside = let o = sound.ordered in let e = ap (λ s. s.end) s.after in let p = in_order_position in omega arith
 
-    -- the octets come to the items so far and to what is left
+    -- the octets are parsed as the items so far and what is left
     all_items : parse_borrowed_items (parse_standing F.parse) octets ≡ before_all s.parts (parse_in_order more (parse_standing F.parse) (last_of [] s.parts) now.position (rest now))
     all_items =
         let few = few_parts F s.parts s.items.each in
@@ -162,7 +162,7 @@ module _ {T : Type 0} {F : form.Ghosts T} {octets : List ℕ} {now : ReaderState
     next_is some =
         all_items ∙ ap (before_all s.parts) (ap (λ n. parse_in_order n (parse_standing F.parse) (last_of [] s.parts) now.position (rest now)) (one_left some) ∙ parse_in_order-step (more - 1) (parse_standing F.parse) (last_of [] s.parts) now.position (rest now) some ∙ ap (λ l. then_in_order l (parse_standing F.parse Der now.position (rest now)) (λ n e. parse_in_order (more - 1) (parse_standing F.parse) e (now.position + n) (drop n (rest now)))) s.last_is)
 
-    -- a fault of the next item is one of the octets
+    -- an error of the next item is an error of the octets
     pub in_order_fault : (kind : ErrorKind) → 0 < length (rest now) → Faults F.TAKES_MEMORY F.FAULTS_FIRST (unless_failed (F.parse now.rules) now) kind → Faults F.TAKES_MEMORY false (parse_borrowed (parse_standing F.parse) Der 0 octets) kind
     in_order_fault kind some faults =
         elim faults [
@@ -177,15 +177,15 @@ module _ {T : Type 0} {F : form.Ghosts T} {octets : List ℕ} {now : ReaderState
         let parsed : parse_standing F.parse Der now.position (rest now) ≡ Ok (told.taken, part) = ap (λ r. as_it_stands (rest now) (F.parse r now.position (rest now))) (sym under_der) ∙ ap (as_it_stands (rest now)) told.parsed ∙ ap (λ b. Ok (told.taken, b)) (sym is) in
         next_is some ∙ ap (λ r. before_all s.parts (then_in_order last r (λ n e. parse_in_order (more - 1) (parse_standing F.parse) e (now.position + n) (drop n (rest now))))) parsed ∙ rw less refl
 
-    -- an item that is less is a fault of the octets
+    -- an item that is less is an error of the octets
     pub order_fault : {new : ReaderState} {v : T} → 0 < length (rest now) → (told : Decoded F now new v) → (part : List ℕ) → part ≡ take told.taken (rest now) → is_gt (lex last part) ≡ true → parse_borrowed (parse_standing F.parse) Der 0 octets ≡ Err SetOrdering
     order_fault {new} {v} some told part is above = ap join_encodings (less_item some told part is (not_le (lex last part) above))
 
-    -- where nothing is left, the octets are those of the items
+    -- if nothing is left, the octets are those of the items
     pub in_order_accepted : rest now ≡ [] → AcceptsInOrder F s.parts octets
     in_order_accepted none = record { all = whole ∙ ap (λ c. concat s.parts ++ c) none ∙ append-nil (concat s.parts); items = s.items }
 
--- the items that were read, the last of which begins at a place
+-- the items that were read, the last of which begins at an offset
 pub record InOrderFrom {T : Type 0} (F : form.Ghosts T) (octets : List ℕ) (now : ReaderState) (before : ℕ) : Type 0 where
   pub read : InOrderSoFar F octets now (take (now.position - before) (drop before octets))
   pub behind : before ≤ now.position
@@ -196,7 +196,7 @@ none_from F octets now e =
     record { read = none_in_order F octets now (take (now.position - 0) (drop 0 octets)) e (ap (λ k. take k (drop 0 octets)) n); behind = omega arith }
 
 module _ {T : Type 0} {F : form.Ghosts T} {octets : List ℕ} {now : ReaderState} {before : ℕ} (s : InOrderFrom F octets now before) where
-  -- the octets before a place are those of the last item
+  -- the octets before an offset are those of the last item
   pub last_at : (bytes : List ℕ) (start : ℕ) → bytes ≡ octets → start ≡ now.position → take (start - before) (drop before bytes) ≡ take (now.position - before) (drop before octets)
   last_at bytes start same from = ap (λ k. take (k - before) (drop before bytes)) from ∙ ap (λ b. take (now.position - before) (drop before b)) same
 

@@ -36,7 +36,7 @@ items_of_parts F (part ∷ parts) each =
     let others = items_of_parts F parts (All-tail (IsItem F) part parts each) in
     (one.item ∷ others.0, (part, concat parts, refl, (one.accepted, one.some), others.1))
 
--- and those of the octets of a set
+-- a new reader has the items that the octets of a set are
 pub items_of_new_set : {T : Type 0} (F : form.Ghosts T) (octets : List ℕ) → AreContentsOf (set_format F) octets → HasItems F (new_reader octets Der)
 items_of_new_set F octets a = λ ready.
     let are = items_of_parts F a.value a.accepted.items.each in
@@ -46,7 +46,7 @@ same_item : (x y : ℕ × List ℕ) (r : Result (ℕ × List ℕ) ErrorKind) →
 same_item x y r e f = cc
 
 module _ {T : Type 0} (F : form.Ghosts T) where
-  -- items that are left have the encodings that are to come
+  -- the items that are left have the encodings that are to come
   come : (s : ReaderState) → s.failed ≡ false → length (rest s) < 2 ^ 32 → (vs : List T) → AcceptsEach (F.accepts s.rules) vs (rest s) → encodings_to_come F.parse s ≡ map F.encoding vs
   come s ready fits vs a =
       rw ready (ap encodings_or_none (parse_of_each F s.rules vs (length (rest s)) s.position (rest s) (length-each (F.accepts s.rules) vs (rest s) a) a fits))
@@ -68,7 +68,7 @@ module _ {T : Type 0} (F : form.Ghosts T) where
       go true = refl
       go false = none
 
-  -- nothing is to come
+  -- nothing is left
   pub ends : (s : ReaderState) → octets_to_come s ≡ [] → ReadsOn F s s None
   ends s none = record { next = (none, refl); items = λ has. ((none_come s none, none_come s none), has) }
 
@@ -121,7 +121,7 @@ module _ {T : Type 0} (F : form.Ghosts T) where
             let fits_new : length (rest new) < 2 ^ 32 = omega (arith, ap length behind, length-drop told.taken (rest old)) in
             ((F.only_readable old.rules v (take told.taken (rest old)) told.accepted, come old ready fits vs a ∙ ap (map F.encoding) one.is ∙ ap (λ e. e ∷ map F.encoding one.others) encoding ∙ ap (λ es. F.encoding v ∷ es) (sym (come new still fits_new one.others others))), λ ready. (one.others, others))
 
-    -- a refusal
+    -- an error
     pub refuses : (e : Error) → NotDecoded F old new e.kind → ReadsOn F old new (Some (Err e))
     refuses e told = record { next = (still_some old ready some, told); items = λ has. go (has ready).0 (has ready).1 }
       where
@@ -138,12 +138,12 @@ module _ {T : Type 0} (F : form.Ghosts T) where
             ] in
             ((why.0, why.1, omega (arith, ap length come_old), gone), λ still. absurd (let failed = told.reader.failed in cc))
 
-    -- what reading an item answers
+    -- the result of reading an item
     pub reads : (r : Result T Error) → Decodes F old new r → ReadsOn F old new (Some r)
     reads (Ok v) told = comes v told
     reads (Err e) told = refuses e told
 
-    -- less is to come after it
+    -- fewer octets are left after it
     pub less_to_come : (nonempty : (v : T) (b : List ℕ) → F.accepts old.rules v b → 0 < length b) (r : Result T Error) → Decodes F old new r → length (octets_to_come new) < length (octets_to_come old)
     less_to_come nonempty (Ok v) told =
         let long = nonempty v (take told.taken (rest old)) told.accepted in

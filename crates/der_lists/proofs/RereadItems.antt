@@ -1,4 +1,4 @@
--- Items that are read again until none is left, and what a loop over them has so far.
+-- Items that are read again until none is left, and the state of a loop over them.
 use Rattle.std.proofs.Common.{◌≡◌, ℕ, suc, ◌+◌, ◌<◌, ◌≤◌, ◌^◌, List, [], ◌∷◌, ◌++◌, length, drop, map, Some, None, Ok, Err, Option, Result, refl, sym, ap, ◌∙◌, arith, append_assoc}
 use Rattle.std.specs.List.{All}
 use Rattle.std.proofs.lemmas.List.{length-drop, map_push}
@@ -14,17 +14,17 @@ module _ {T : Type 0} (F : form.Ghosts T) (start : ReaderState) where
   abbrev pub all : List (List ℕ)
   all = encodings_to_come F.parse start
 
-  -- so many items were read, and the others are to come
+  -- `count` items were read, and the others are left
   pub record CountedOn (now : ReaderState) (count : ℕ) : Type 0 where
     pub fits : length (octets_to_come start) < 2 ^ 32
     pub few : count + length (octets_to_come now) ≤ length (octets_to_come start)
     pub items : HasItems F start → (length all ≡ count + length (encodings_to_come F.parse now)) × HasItems F now
 
-  -- these items were read, and the others are to come
+  -- these items were read, and the others are left
   pub record ListedOn (now : ReaderState) (vs : List T) : Type 0 where
     pub items : HasItems F start → All F.readable vs × (all ≡ map F.encoding vs ++ encodings_to_come F.parse now) × HasItems F now
 
-  -- as many as this place were read, and the others are to come
+  -- `place` items were read, and the others are left
   pub record SkippedOn (now : ReaderState) (place : ℕ) : Type 0 where
     pub items : HasItems F start → (encodings_to_come F.parse now ≡ drop place all) × HasItems F now
 
@@ -67,7 +67,7 @@ module _ {T : Type 0} (F : form.Ghosts T) (start : ReaderState) where
           ((next_at all place (F.encoding v) (encodings_to_come F.parse new) (sym before.0 ∙ told.0.1)).0, told.1);
     }
 
-    -- the next item is the one at the place
+    -- the next item is the one at the index
     pub next_there : {place : ℕ} (r : Option (Result T Error)) → SkippedOn now place → ReadsOn F now new r → HasItems F start → ComesAt F all place r
     next_there {place} None so_far on has =
         let before = so_far.items has in

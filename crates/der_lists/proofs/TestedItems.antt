@@ -12,14 +12,14 @@ use Rattle.der_lists.specs.Items.{AreItems, AreToCome}
 use Rattle.der_lists.proofs.ReadingOnItems.{encodings_of_new, items_of_new}
 
 module _ {T : Type 0} (F : form.Ghosts T) where
-  -- a new reader has the items of its octets before it
+  -- a new reader has all items of its octets left
   pub all_to_come : (octets : List ℕ) (items : List T) (now : ReaderState) → Fits octets → now ≡ new_reader octets Der → AreItems F octets items → AreToCome F now items
   all_to_come octets items now fits is a = subst (λ s. AreToCome F s items) (sym is) (record {
     encodings = sym (encodings_of_new F octets ∙ encodings_of_items F items octets a fits);
     has = items_of_new F octets (record { value = items; accepted = a });
   })
 
-  -- the first of those to come has the encoding of what is read, and the others are to come
+  -- the first item left has the encoding of the item that was read, and the others are left
   pub record Next (new : ReaderState) (items : List T) (v : T) : Type 0 where
     pub first : T
     pub others : List T
@@ -42,12 +42,12 @@ module _ {T : Type 0} (F : form.Ghosts T) where
       let told = on.items left.has in
       absurd (let e = left.encodings ∙ told.0.0 in cc)
 
-  -- items that take no memory are not refused
+  -- reading items that take no memory never fails
   pub never_refused : F.TAKES_MEMORY ≡ false → (now new : ReaderState) (items : List T) (e : Error) → AreToCome F now items → ReadsOn F now new (Some (Err e)) → ⊥
   never_refused free now new items e left on = let told = (on.items left.has).0 in let t = told.1 in absurd (cc)
 
   module _ (test : T → Bool) (start : ReaderState) where
-    -- whether one of all passes is whether one of those that are left does
+    -- some item passes if and only if some item that is left passes
     abbrev pub SomeLeft : ReaderState → Type 0
     SomeLeft now = (all : List T) → AreToCome F start all → (items : List T) × AreToCome F now items × (list_any test items ≡ list_any test all)
 
@@ -79,7 +79,7 @@ module _ {T : Type 0} (F : form.Ghosts T) where
         let so = left all a in
         absurd (never_refused free now new so.0 e so.1 on)
 
-    -- whether all pass is whether all of those that are left do
+    -- all items pass if and only if all items that are left pass
     abbrev pub AllLeft : ReaderState → Type 0
     AllLeft now = (all : List T) → AreToCome F start all → (items : List T) × AreToCome F now items × (list_all test items ≡ list_all test all)
 

@@ -10,7 +10,7 @@ use Rattle.der_lists.specs.ReadingOn.{HasItems, encodings_to_come}
 abbrev pub AreItems : {T : Type 0} → form.Ghosts T → List ℕ → List T → Type 0
 AreItems F octets items = AcceptsEach (F.accepts Der) items octets
 
--- these items are to come
+-- these items are left to read
 pub record AreToCome {T : Type 0} (F : form.Ghosts T) (now : ReaderState) (items : List T) : Type 0 where
   pub encodings : map F.encoding items ≡ encodings_to_come F.parse now
   pub has : HasItems F now

@@ -1,4 +1,4 @@
--- What a ListRef shows.
+-- The value of a ListRef that a caller sees.
 use Rattle.std.specs.Prelude.{ℕ, List}
 use Rattle.der_lists.specs.declared.list_ref.ListRef.{ListRef}
 

@@ -1,4 +1,4 @@
--- What a NonEmptyRef shows, and why there is none.
+-- The value of a NonEmptyRef that a caller sees, and the reason why there is none.
 use Rattle.std.specs.Prelude.{◌≡◌, ◌⊎◌, ℕ, List, [], Bool}
 use Rattle.der_tlv.specs.declared.error.ErrorKind.{ErrorKind}
 use Rattle.der_tlv.specs.declared.error.ErrorKind.TheVariants.{Value}

@@ -1,4 +1,4 @@
--- The contents octets of sets whose items stand in the order of their octets (X.690 8.12, 11.6).
+-- The contents octets of sets whose items are in the order of their octets (X.690 8.12, 11.6).
 use Rattle.std.specs.Prelude.{ℕ, List, length, false, refl}
 use Rattle.std.proofs.Common.{ap, sym}
 use Rattle.std.specs.List.{concat}
@@ -11,7 +11,7 @@ use Rattle.der_lists.specs.SetsInOrder.{InOrder, AcceptsInOrder, parse_standing}
 use Rattle.der_lists.specs.SetsInOrderLaws.{parse_of_in_order, in_order_of_octets}
 
 -- The octets of the items, item by item. They are read under DER, whatever the rules of the octets around them, until nothing is
--- left, or the first fault from the left: an item's own, or that its octets are less than those of the one before it (11).
+-- left, or the first error from the left: an item's own, or octets that are less than those of the item before it (11).
 abbrev pub set_format : {T : Type 0} → form.Ghosts T → ContentsFormat (List (List ℕ))
 set_format F = record {
   contents = concat;
@@ -32,6 +32,6 @@ set_format F = record {
   re_reads_memory = λ v. no_re_reading F.TAKES_MEMORY;
 }
 
--- what the contents octets of such a set come to: the octets as they came
+-- the result of parsing the contents octets of such a set: the octets as they were read
 abbrev pub parse_kept_set : Parse → ContentsParse
 parse_kept_set parse = parse_kept (parse_borrowed (parse_standing parse))

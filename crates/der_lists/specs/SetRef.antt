@@ -1,4 +1,4 @@
--- What a SetRef shows.
+-- The value of a SetRef that a caller sees.
 use Rattle.std.specs.Prelude.{ℕ, List}
 use Rattle.der_lists.specs.declared.set_ref.SetRef.{SetRef}
 

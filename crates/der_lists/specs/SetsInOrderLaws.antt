@@ -1,4 +1,4 @@
--- The laws of sets whose items stand in the order of their octets.
+-- The laws of sets whose items are in the order of their octets.
 use Rattle.std.proofs.Common.{◌≡◌, ℕ, suc, ◌+◌, ◌-◌, ◌≤◌, List, [], ◌∷◌, ◌++◌, length, drop, Result, Ok, Err, refl, sym, ap, ◌∙◌, arith, append_assoc}
 use Rattle.std.specs.List.{All, concat}
 use Rattle.std.proofs.lemmas.List.{length-append, append-nil}
@@ -33,7 +33,7 @@ module _ {T : Type 0} (F : form.Ghosts T) where
       let h = few_parts parts (All-tail (IsItem F) part parts each) in
       omega (arith, length-append part (concat parts))
 
-  -- the octets of an item are parsed as they stand
+  -- the octets of an item are parsed as they were read
   pub standing_parsed : (part : List ℕ) (p : ℕ) (c : List ℕ) → IsItem F part → Fits part → parse_standing F.parse Der p (part ++ c) ≡ Ok (length part, part)
   standing_parsed [] p c one fits = let some = one.some in absurd (omega arith)
   standing_parsed (y ∷ s) p c one fits =

@@ -1,4 +1,4 @@
--- What an UnorderedSetRef shows.
+-- The value of an UnorderedSetRef that a caller sees.
 use Rattle.std.specs.Prelude.{ℕ, List}
 use Rattle.der_lists.specs.declared.unordered_set_ref.UnorderedSetRef.{UnorderedSetRef}
 

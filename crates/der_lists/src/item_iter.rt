@@ -17,9 +17,9 @@ use std::alloc::{AllocError, Global};
 use std::iter::FusedIterator;
 use std::marker::{Model, PhantomData};
 
-/// The items that are still to come, in order, each of which is read again.
+/// The items that are left, in order, each read again.
 ///
-/// A refusal is the last that comes. After the last one, `next` answers `None` for good.
+/// An error is the last item. After the last item, `next` always returns `None`.
 #[derive(Drop)]
 pub struct ItemIter<'a, T> {
     reader: SliceReader<'a>,
@@ -37,7 +37,7 @@ impl<'a, T> Model for ItemIter<'a, T> {
 }
 
 impl<'a, T: Form> ItemIter<'a, T> {
-    /// The items that octets are read as, from their own beginning and under DER.
+    /// Creates an iterator of the items that octets are read as, from position 0 and under DER.
     pub(crate) fn new(alloc: Global, octets: OctetStringRef<'a>) -> ItemIter<'a, T>
         ensures { result ≡ new_reader (string.octets_of octets.entry) Der }
     {
@@ -53,10 +53,10 @@ impl<'a, T: Form> ItemIter<'a, T> {
 }
 
 impl<'a, T: Decode<'a, SliceReader<'a>> + Choice> ItemIter<'a, T> {
-    /// How many items are to come.
+    /// Counts the items that are left.
     ///
     /// # Errors
-    /// `ErrorKind::Memory` (1) where an item takes memory.
+    /// `ErrorKind::Memory` (1) if an item takes memory and none is left.
     pub(crate) fn counted(mut self) -> Result<usize, Error>
         ensures { HasItems T.Form self.entry
             → Counts T.Form (encodings_to_come T.parse self.entry) result }
@@ -69,10 +69,11 @@ impl<'a, T: Decode<'a, SliceReader<'a>> + Choice> ItemIter<'a, T> {
         Ok(count)
     }
 
-    /// The item at a place among those to come, if there is one, read after those before it.
+    /// Reads the item at an index among those that are left, after the items before it. Returns
+    /// `None` if there is no such item.
     ///
     /// # Errors
-    /// `ErrorKind::Memory` (1) where an item takes memory.
+    /// `ErrorKind::Memory` (1) if an item takes memory and none is left.
     pub(crate) fn at(mut self, index: usize) -> Option<Result<T, Error>>
         ensures { HasItems T.Form self.entry
             → ComesAt T.Form (encodings_to_come T.parse self.entry) index result }
@@ -87,7 +88,8 @@ impl<'a, T: Decode<'a, SliceReader<'a>> + Choice> ItemIter<'a, T> {
         self.next()
     }
 
-    /// Whether one of the items to come passes a test; false where memory runs out before.
+    /// Returns whether one of the items that are left passes a test. The result is false if
+    /// memory runs out before that item.
     pub(crate) fn has_one<P: ItemTest<T>>(mut self, test: &P) -> bool
         ensures { T.Form.TAKES_MEMORY ≡ false → (items : List T) → AreToCome T.Form self.entry items
             → result ≡ list_any (P.passes test.now) items }
@@ -105,7 +107,8 @@ impl<'a, T: Decode<'a, SliceReader<'a>> + Choice> ItemIter<'a, T> {
         false
     }
 
-    /// Whether each of the items to come passes a test; false where memory runs out before.
+    /// Returns whether each of the items that are left passes a test. The result is false if
+    /// memory runs out before the last.
     pub(crate) fn has_all<P: ItemTest<T>>(mut self, test: &P) -> bool
         ensures { T.Form.TAKES_MEMORY ≡ false → (items : List T) → AreToCome T.Form self.entry items
             → result ≡ list_all (P.passes test.now) items }
@@ -123,10 +126,10 @@ impl<'a, T: Decode<'a, SliceReader<'a>> + Choice> ItemIter<'a, T> {
         true
     }
 
-    /// The items to come, in a vector.
+    /// Reads the items that are left into a vector.
     ///
     /// # Errors
-    /// `ErrorKind::Memory` (1) where memory runs out.
+    /// `ErrorKind::Memory` (1) if memory runs out.
     pub(crate) fn in_vector(mut self, alloc: Global) -> Result<Vec<T>, Error>
         ensures { HasItems T.Form self.entry
             → ReReadsAll T.Form (encodings_to_come T.parse self.entry) result }
@@ -164,7 +167,7 @@ impl<'a, T: Form> Clone for ItemIter<'a, T> {
 
     ghost is_infallible = { λ _. ⊤ };
 
-    /// The same items are still to come from both.
+    /// Copies the iterator: both have the same items left.
     fn clone(&self) -> Result<ItemIter<'a, T>, AllocError> {
         let reader = self.reader.clone()?;
         let alloc = self.alloc;

@@ -4,11 +4,12 @@ ghost use Rattle.std.specs.Prelude.{◌≡◌, Bool};
 
 use der_elem::Form;
 
-/// A test of an item, of which the encoding decides: items with one encoding pass it alike.
+/// A test of an item, which depends only on its encoding: items with equal encodings have equal
+/// results.
 pub trait ItemTest<T: Form> {
     ghost passes: { Self → T → Bool };
 
-    /// Whether an item passes.
+    /// Returns whether an item passes.
     fn passes(&self, item: &T) -> bool
         ensures { result ≡ Self.passes self.now item.now };
 

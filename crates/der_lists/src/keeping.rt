@@ -1,4 +1,4 @@
-//! Contents octets that are kept once their items were read.
+//! Contents octets that are kept after their items were read.
 
 ghost use Rattle.std.specs.Prelude.{◌≡◌, ◌<◌, ◌≤◌, ◌-◌, ◌^◌, length, take, drop, IfErr, OnOk};
 ghost use Rattle.std.specs.Ordering.{is_gt};
@@ -15,7 +15,7 @@ use der_opaque::OctetStringRef;
 use der_tlv::{Error, ErrorKind, Length, Reader, SliceReader};
 use std::alloc::Global;
 
-/// Keeps contents octets if items are read from them until nothing is left.
+/// Keeps contents octets if they are read as items until nothing is left.
 pub(crate) fn keep_each<'a, T: Decode<'a, SliceReader<'a>> + Choice>(
     alloc: Global,
     octets: &'a [u8],
@@ -39,8 +39,9 @@ pub(crate) fn keep_each<'a, T: Decode<'a, SliceReader<'a>> + Choice>(
     Ok(octets)
 }
 
-/// Keeps contents octets if items are read from them until nothing is left, none of which is less than
-/// the one before it (`ErrorKind::SetOrdering`, 11). Their octets are compared as they stand.
+/// Keeps contents octets if they are read as items until nothing is left, and no item is less
+/// than the one before it (`ErrorKind::SetOrdering`, 11). The octets of the items are compared as
+/// they were read.
 pub(crate) fn keep_in_order<'a, T: Decode<'a, SliceReader<'a>> + Choice>(
     alloc: Global,
     octets: &'a [u8],
@@ -71,8 +72,8 @@ pub(crate) fn keep_in_order<'a, T: Decode<'a, SliceReader<'a>> + Choice>(
     Ok(octets)
 }
 
-/// Whether the item that stands from one place to another is less than the item before it, which begins at
-/// a place of its own. The first item has none before it, and both places are alike.
+/// Returns whether the item in `start..end` is less than the item before it, which begins at
+/// `before`. The first item has none before it, and `before` is then equal to `start`.
 #[inline(always)]
 #[tactic(auto, using(crate::proofs::InOrderReading::none_before))]
 fn is_less(octets: &[u8], before: usize, start: usize, end: usize) -> bool
@@ -88,7 +89,7 @@ fn is_less(octets: &[u8], before: usize, start: usize, end: usize) -> bool
     is_above(&octets[before..start], &octets[start..end])
 }
 
-/// Whether octets are greater than others.
+/// Returns whether octets are greater than others.
 #[inline(never)]
 fn is_above(octets: &[u8], others: &[u8]) -> bool
     ensures { result ≡ is_gt (lex octets.now others.now) }
@@ -96,7 +97,7 @@ fn is_above(octets: &[u8], others: &[u8]) -> bool
     octets.cmp(others).is_gt()
 }
 
-/// A fault of contents octets, before the first of which so many octets stand.
+/// Moves the position of an error in contents octets by the offset of those octets.
 pub(crate) fn behind(begin: Length, error: Error) -> Error
     ensures kind { result.kind ≡ error.kind }
     ensures position { result.position ≡ position_behind begin error.position }

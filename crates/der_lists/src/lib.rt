@@ -1,7 +1,7 @@
 //! Lists that borrow the octets that they were read from (X.690 8.10, 8.12, 11.6).
 //!
-//! Each keeps the contents octets as they came and no item, so it is `Copy` and takes no memory. Every item is checked when the
-//! list is read; `iter` reads the items again.
+//! Each list keeps only the contents octets as they were read, and no items, so it is `Copy` and
+//! takes no memory. Every item is checked when the list is read; `iter` reads the items again.
 //!
 //! ```rust
 //! let list = ListRef::<u16>::from_der(rt.alloc(), &[0x30, 0x03, 0x02, 0x01, 0x05])?;

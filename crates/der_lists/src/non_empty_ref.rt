@@ -1,9 +1,10 @@
-//! SEQUENCE SIZE (1..MAX) OF and SET SIZE (1..MAX) OF, borrowed, which are `NonEmptyRef` (X.680 51.5).
+//! SEQUENCE SIZE (1..MAX) OF and SET SIZE (1..MAX) OF, borrowed, as `NonEmptyRef` (X.680 51.5).
 //!
-//! It has the tag, the octets, the order and the refusals of the list that it is of: `ListRef`, `SetRef`
-//! or `UnorderedSetRef`. So the INTEGER 5 alone is 30 03 02 01 05 in a `NonEmptyRef<ListRef<u8>>`. A list
-//! of no items, 30 00, is none: reading refuses it after the header, and `new` answers the same
-//! (`ErrorKind::Value`, 13, with the list's tag).
+//! A `NonEmptyRef` has the tag, the octets, the order and the errors of its list: `ListRef`,
+//! `SetRef` or `UnorderedSetRef`. The INTEGER 5 alone is 30 03 02 01 05 in a
+//! `NonEmptyRef<ListRef<u8>>`. A list of no items, 30 00, is not a `NonEmptyRef`: decoding fails
+//! after the header, and `new` returns the same error (`ErrorKind::Value`, 13, with the list's
+//! tag).
 
 ghost use Rattle.std.specs.Prelude.{◌≡◌, ◌<◌, length, IfOk, IfErr, OnOk};
 ghost use Rattle.der_elem.specs.FormatMakers.{mapped_format};
@@ -18,7 +19,7 @@ use der_tlv::{BackWriter, Error, Header, Length, Reader, Source, Writer};
 use std::alloc::Global;
 use std::cmp::Ordering;
 
-/// A list that has an item.
+/// A list that has at least one item.
 #[derive(Clone, Copy, Debug, PartialEq, Eq)]
 pub struct NonEmptyRef<L> {
     list: L,
@@ -27,7 +28,7 @@ pub struct NonEmptyRef<L> {
 impl<L> NonEmptyRef<L> {
     ghost use Rattle.der_lists.specs.NonEmptyRef.{list_of};
 
-    /// The list.
+    /// Returns the list.
     pub fn list(&self) -> &L
         ensures { result.now ≡ list_of self.now }
     {
@@ -38,11 +39,11 @@ impl<L> NonEmptyRef<L> {
 impl<L: EncodeValue + OneTag + Copy> NonEmptyRef<L> {
     ghost use Rattle.der_lists.specs.NonEmptyRef.{list_of};
 
-    /// A list that has an item.
+    /// Creates a `NonEmptyRef` from a list that has an item.
     ///
     /// # Errors
-    /// `ErrorKind::Value` (13) with the list's tag where it has none; as measuring the list refuses, which
-    /// it does of no list of this crate.
+    /// `ErrorKind::Value` (13) with the list's tag if it has no items; the error of measuring the
+    /// list, which no list of this crate returns.
     pub fn new(list: L) -> Result<NonEmptyRef<L>, Error>
         ensures ok { IfOk result (λ some. list_of some ≡ list) }
         ensures some { OnOk result (0 < length (L.value.contents list)) }

@@ -1,13 +1,14 @@
 //! SET OF in any order, borrowed, which is `UnorderedSetRef` (X.690 8.12).
 //!
-//! The tag is 31. The contents octets are the encodings of the items, one after another, in the order in
-//! which they came: BER asks for none. It stands where a standard has BER written and readers have to
-//! live with it; `SetRef` is the SET OF of DER.
+//! The tag is 31. The contents octets are the encodings of the items, one after another, in the
+//! order in which they came: BER requires no order. This type is for standards in which BER is
+//! written and readers must accept it; `SetRef` is the SET OF of DER.
 //!
-//! Reading keeps the octets, and no item. It refuses with the first fault of an item, from the left, and
-//! with `ErrorKind::Memory` (1) where the item takes memory. The items are read by a reader of the
-//! contents octets alone, from position 0 on, under DER; the position of a fault counts from the first
-//! octet of all. What was read is compared, and written, as it came.
+//! Decoding keeps the octets, and no item. It fails with the first error of an item, from the
+//! left, and with `ErrorKind::Memory` (1) if the item takes memory and none is left. A reader of
+//! the contents octets alone reads the items, from position 0 and under DER. The position of an
+//! error is relative to the first octet of all. The octets are compared and written as they were
+//! read.
 
 ghost use Rattle.std.specs.Prelude.{◌≡◌, ◌<◌, ◌≤◌, ◌==◌, ◌^◌, ⊤, List, false, length, refl, IfErr, OnOk};
 ghost use Rattle.der_tlv.specs.declared.error.ErrorKind.TheVariants as kinds;
@@ -39,7 +40,8 @@ use std::cmp::Ordering;
 use std::fmt;
 use std::marker::PhantomData;
 
-/// The contents octets of items that were read in any order, borrowed: at most 4294967295 of them.
+/// The contents octets of items that were read in any order, borrowed. There are at most
+/// 4294967295 of them.
 #[derive(Drop)]
 pub struct UnorderedSetRef<'a, T> {
     octets: OctetStringRef<'a>,
@@ -49,14 +51,14 @@ pub struct UnorderedSetRef<'a, T> {
 impl<'a, T> UnorderedSetRef<'a, T> {
     ghost use Rattle.der_lists.specs.UnorderedSetRef.{octets_of};
 
-    /// The contents octets.
+    /// Returns the contents octets.
     pub fn as_bytes(&self) -> &'a [u8]
         ensures { result.now ≡ octets_of self.now }
     {
         self.octets.as_bytes()
     }
 
-    /// Whether there are no contents octets, and so no items.
+    /// Returns whether there are no contents octets, and so no items.
     pub fn is_empty(&self) -> bool
         ensures { result ≡ (length (octets_of self.now) == 0) }
     {
@@ -67,10 +69,10 @@ impl<'a, T> UnorderedSetRef<'a, T> {
 impl<'a, T: Decode<'a, SliceReader<'a>> + Choice> UnorderedSetRef<'a, T> {
     ghost use Rattle.der_lists.specs.UnorderedSetRef.{octets_of};
 
-    /// The list of these contents octets, each of whose items is read once.
+    /// Creates the list of these contents octets, and reads each item once.
     ///
     /// # Errors
-    /// The first fault of the items; `ErrorKind::Length` (7) for more than 4294967295 octets.
+    /// The first error of the items; `ErrorKind::Length` (7) for more than 4294967295 octets.
     pub fn new(alloc: Global, octets: &'a [u8]) -> Result<UnorderedSetRef<'a, T>, Error>
         ensures kept { length octets.now < 2 ^ 32
             → KeepsContents octets_of (items_format T.Form) octets.now result }
@@ -86,10 +88,10 @@ impl<'a, T: Decode<'a, SliceReader<'a>> + Choice> UnorderedSetRef<'a, T> {
         }
     }
 
-    /// How many items there are.
+    /// Counts the items.
     ///
     /// # Errors
-    /// `ErrorKind::Memory` (1) where an item takes memory.
+    /// `ErrorKind::Memory` (1) if an item takes memory and none is left.
     pub fn count(&self, alloc: Global) -> Result<usize, Error>
         ensures { AreContentsOf (items_format T.Form) (octets_of self.now)
             → Counts T.Form (item_encodings T.parse (octets_of self.now)) result }
@@ -97,10 +99,11 @@ impl<'a, T: Decode<'a, SliceReader<'a>> + Choice> UnorderedSetRef<'a, T> {
         self.iter(alloc).counted()
     }
 
-    /// The item at a place, if there is one, read again after those before it.
+    /// Reads again the item at an index, after the items before it. Returns `None` if there is no
+    /// such item.
     ///
     /// # Errors
-    /// `ErrorKind::Memory` (1) where an item, or one before it, takes memory.
+    /// `ErrorKind::Memory` (1) if the item, or one before it, takes memory and none is left.
     pub fn get(&self, alloc: Global, index: usize) -> Option<Result<T, Error>>
         ensures { AreContentsOf (items_format T.Form) (octets_of self.now)
             → ComesAt T.Form (item_encodings T.parse (octets_of self.now)) index result }
@@ -108,7 +111,8 @@ impl<'a, T: Decode<'a, SliceReader<'a>> + Choice> UnorderedSetRef<'a, T> {
         self.iter(alloc).at(index)
     }
 
-    /// Whether one of the items passes a test; of items that take memory also false where that runs out.
+    /// Returns whether one of the items passes a test. The result is also false if items take
+    /// memory, and memory runs out.
     #[tactic(auto, using(crate::proofs::TestedItems::all_to_come))]
     pub fn any<P: ItemTest<T>>(&self, alloc: Global, test: &P) -> bool
         ensures { T.Form.TAKES_MEMORY ≡ false → (items : List T) → AreItems T.Form (octets_of self.now) items
@@ -117,7 +121,8 @@ impl<'a, T: Decode<'a, SliceReader<'a>> + Choice> UnorderedSetRef<'a, T> {
         self.iter(alloc).has_one(test)
     }
 
-    /// Whether each of the items passes a test; of items that take memory also false where that runs out.
+    /// Returns whether each of the items passes a test. The result is also false if items take
+    /// memory, and memory runs out.
     #[tactic(auto, using(crate::proofs::TestedItems::all_to_come))]
     pub fn all<P: ItemTest<T>>(&self, alloc: Global, test: &P) -> bool
         ensures { T.Form.TAKES_MEMORY ≡ false → (items : List T) → AreItems T.Form (octets_of self.now) items
@@ -126,10 +131,10 @@ impl<'a, T: Decode<'a, SliceReader<'a>> + Choice> UnorderedSetRef<'a, T> {
         self.iter(alloc).has_all(test)
     }
 
-    /// The items, in a vector.
+    /// Reads the items into a vector.
     ///
     /// # Errors
-    /// `ErrorKind::Memory` (1) where memory runs out.
+    /// `ErrorKind::Memory` (1) if memory runs out.
     pub fn to_vec(&self, alloc: Global) -> Result<Vec<T>, Error>
         ensures { AreContentsOf (items_format T.Form) (octets_of self.now)
             → ReReadsAll T.Form (item_encodings T.parse (octets_of self.now)) result }
@@ -141,7 +146,7 @@ impl<'a, T: Decode<'a, SliceReader<'a>> + Choice> UnorderedSetRef<'a, T> {
 impl<'a, T: Form> UnorderedSetRef<'a, T> {
     ghost use Rattle.der_lists.specs.UnorderedSetRef.{octets_of};
 
-    /// The items, in order, each of which is read again until nothing is left.
+    /// Returns the items in order. Each is read again, until nothing is left.
     #[tactic(auto, using(crate::proofs::ReadingOnItems::items_of_new, crate::proofs::ReadingOnItems::encodings_of_new))]
     pub fn iter(&self, alloc: Global) -> ItemIter<'a, T>
         ensures octets { result ≡ new_reader (octets_of self.now) Der }
@@ -169,7 +174,7 @@ impl<'a, T> Clone for UnorderedSetRef<'a, T> {
 impl<'a, T> Copy for UnorderedSetRef<'a, T> {}
 
 impl<'a, T> fmt::Debug for UnorderedSetRef<'a, T> {
-    /// The octets, as those of an OCTET STRING are shown.
+    /// Writes the octets as an OCTET STRING shows them.
     fn fmt<W: fmt::Write>(&self, f: &mut fmt::Formatter<W>) -> fmt::Result {
         fmt::Debug::fmt(&self.octets, f)
     }

@@ -22,7 +22,7 @@ use Rattle.der_nest.specs.BorrowedItems.{giving_takes_memory}
 use Rattle.der_nest.specs.FindingNext.{Finds}
 use Rattle.der_nest.specs.ComparingBorrowed.{IncomparableBorrowed}
 
--- the items from a place on
+-- the items from an index on
 abbrev pub items_from : {T : Type 0} → ℕ → Borrowed T → Borrowed T
 items_from i (OfItems vs) = OfItems (drop i vs)
 items_from i (OfOctets es) = OfOctets (drop i es)
@@ -31,7 +31,7 @@ items_from-none : {T : Type 0} (v : Borrowed T) → items_from 0 v ≡ v
 items_from-none (OfItems vs) = refl
 items_from-none (OfOctets es) = refl
 
--- the first of what is left behind a place is the one there
+-- the first of the items left from an index is the item at that index
 pub next_at : {A : Type 0} (xs : List A) (i : ℕ) (x : A) (others : List A) → drop i xs ≡ x ∷ others → (others ≡ drop (suc i) xs) × (slice_get xs i ≡ Some x)
 next_at [] zero x others e = cc
 next_at [] (suc i) x others e = cc
@@ -58,7 +58,7 @@ any_at f (y ∷ ys) (suc i) x e h = ap (λ b. f y || b) (any_at f ys i x e h) �
     or_true false = refl
 
 module _ {T : Type 0} (F : form.Ghosts T) where
-  -- an item of a set at a place, and what is left behind it
+  -- an item of a set at an index, and the items after it
   pub record ItemAt (v : Borrowed T) (i : ℕ) (x : T) (left : Borrowed T) : Type 0 where
     pub stands : StandsAt F v i x
     pub left_is : left ≡ items_from (suc i) v
@@ -172,7 +172,7 @@ module _ {T : Type 0} {F : form.Ghosts T} {v w left right : Borrowed T} (s : Com
     pair_decides found other new new' a b order is ne =
         sym (pair_order found other new new' a b ∙ ap (λ o. ordering_then o (lex (borrowed_contents F.encoding new) (borrowed_contents F.encoding new'))) (sym is) ∙ then_decided order (lex (borrowed_contents F.encoding new) (borrowed_contents F.encoding new')) ne)
 
-    -- with one more pair that is equal
+    -- one more pair is equal
     pub one_more_pair : (found other : Found T) (new new' : Borrowed T) → Finds F left found new → Finds F right other new' → Equal ≡ lex (F.encoding (found_item found)) (F.encoding (found_item other)) → ComparedSoFar F v w new new'
     one_more_pair found other new new' a b is = record {
       place = suc s.place;

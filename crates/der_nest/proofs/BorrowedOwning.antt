@@ -12,7 +12,7 @@ use Rattle.der_nest.specs.BorrowedSets.{Borrowed, OfItems, OfOctets, encodings_o
 use Rattle.der_nest.specs.BorrowedItems.{GivesItem, AreItemsOf}
 use Rattle.der_nest.proofs.Copying.{copies_in_order}
 
--- these are the items of the set, and then those that are left
+-- the items of the set are these, and then those that are left
 abbrev pub OwnedSoFar : {T : Type 0} → form.Ghosts T → (T → T → Type 0) → Borrowed T → List T → Borrowed T → Type 0
 OwnedSoFar {T} F is_copy (OfItems vs) items left =
     (before : List T) × (others : List T) × (vs ≡ before ++ others) × AreCopies is_copy before items × (left ≡ OfItems others)
@@ -36,7 +36,7 @@ module _ {T : Type 0} (F : form.Ghosts T) (is_copy : T → T → Type 0) where
       items_or_none (OfItems vs) = vs
       items_or_none (OfOctets es) = []
 
-  -- with one more item
+  -- one more item is owned
   pub one_more_owned : (v : Borrowed T) (items : List T) (left : Borrowed T) (x : T) (new : Borrowed T) → OwnedSoFar F is_copy v items left → GivesItem F is_copy left x new → OwnedSoFar F is_copy v (items ++ x ∷ []) new
   one_more_owned (OfItems vs) items left x new (before, others, is, copies, left_is) gives =
       let told : GivesItem F is_copy (OfItems others) x new = subst (λ l. GivesItem F is_copy l x new) left_is gives in
@@ -49,7 +49,7 @@ module _ {T : Type 0} (F : form.Ghosts T) (is_copy : T → T → Type 0) where
   no_items [] e = refl
   no_items (v ∷ vs) e = cc
 
-  -- where none is left, these are the items
+  -- if none is left, these are the items
   pub all_owned : (v : Borrowed T) (items : List T) (left : Borrowed T) → OwnedSoFar F is_copy v items left → encodings_of F.encoding left ≡ [] → AreItemsOf F is_copy v items
   all_owned (OfItems vs) items left (before, others, is, copies, left_is) none =
       let end : others ≡ [] = no_items others (ap (encodings_of F.encoding) (sym left_is) ∙ none) in
@@ -58,7 +58,7 @@ module _ {T : Type 0} (F : form.Ghosts T) (is_copy : T → T → Type 0) where
       let end : others ≡ [] = ap (encodings_of F.encoding) (sym left_is) ∙ none in
       (readable, sym (is ∙ ap (λ s. map F.encoding items ++ s) end ∙ append-nil (map F.encoding items)))
 
-  -- the items of a set stand in order
+  -- the items of a set are in order
   pub owned_in_order : (copy_encoding : (v w : T) → is_copy v w → F.encoding w ≡ F.encoding v) (v : Borrowed T) (items : List T) → AreItemsOf F is_copy v items → IsSorted lex (encodings_of F.encoding v) → IsInOrder F.encoding items
   owned_in_order same (OfItems vs) items copies up = copies_in_order F.encoding is_copy same vs items copies up
   owned_in_order same (OfOctets es) items (readable, is) up = subst (IsSorted lex) (sym is) up

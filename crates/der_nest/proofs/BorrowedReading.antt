@@ -25,7 +25,7 @@ EndsIn F items None = items ≡ []
 EndsIn {T} F items (Some w) =
     (before : List T) × (b : List ℕ) × (items ≡ before ++ w ∷ []) × F.accepts Der w b × (length b < 2 ^ 32)
 
--- so many items were read, in order
+-- `count` items were read, in order
 pub record BorrowedSoFar {T : Type 0} (F : form.Ghosts T) (octets : List ℕ) (now : ReaderState) (count : ℕ) (last : Option T) : Type 0 where
   pub read : CountedSoFar F octets now count
   pub in_order : IsInOrder F.encoding read.items
@@ -45,7 +45,7 @@ push_in_order F items (Some w) v up ends can =
     in_order_push F.encoding items v up (λ last some is. let n = ap length ends.2 ∙ length-append ends.0 (w ∷ []) in let at : get_or items (length items - 1) last ≡ w = ap (λ xs. get_or xs (length items - 1) last) ends.2 ∙ get_or_push ends.0 w last (length items - 1) (omega arith) in subst (λ x. not_above F.encoding v x ≡ true) (sym (is ∙ at)) can)
 
 module _ {T : Type 0} {F : form.Ghosts T} {octets : List ℕ} {now : ReaderState} {count : ℕ} {last : Option T} (s : BorrowedSoFar F octets now count last) (sound : IsReaderState now) where
-  -- the octets come to the items so far and to what is left
+  -- the octets are parsed as the items so far and what is left
   all_items : parse_borrowed_items F.parse octets ≡ before_all (map F.encoding s.read.items) (parse_in_order s.read.so_far.more F.parse (last_of [] (map F.encoding s.read.items)) now.position (rest now))
   all_items =
       let l = length-take s.read.so_far.taken octets in
@@ -67,7 +67,7 @@ module _ {T : Type 0} {F : form.Ghosts T} {octets : List ℕ} {now : ReaderState
   next_is some =
       all_items ∙ ap (before_all (map F.encoding s.read.items)) (ap (λ n. parse_in_order n F.parse (last_of [] (map F.encoding s.read.items)) now.position (rest now)) (one_left some) ∙ parse_in_order-step (s.read.so_far.more - 1) F.parse (last_of [] (map F.encoding s.read.items)) now.position (rest now) some)
 
-  -- a fault of the next item is one of the set
+  -- an error of the next item is an error of the set
   pub borrowed_item_fault : (kind : ErrorKind) → 0 < length (rest now) → Faults F.TAKES_MEMORY F.FAULTS_FIRST (unless_failed (F.parse now.rules) now) kind → Faults F.TAKES_MEMORY false (parse_borrowed_items F.parse octets) kind
   borrowed_item_fault kind some faults =
       let there : unless_failed (F.parse now.rules) now ≡ F.parse Der now.position (rest now) = rw (still_ready s.read.so_far refl, same_rules s.read.so_far) refl in
@@ -91,7 +91,7 @@ module _ {T : Type 0} {F : form.Ghosts T} {octets : List ℕ} {now : ReaderState
   ran_out : {kind : ErrorKind} → (kind ≡ Memory) × (F.TAKES_MEMORY ≡ true) → RanOut F.TAKES_MEMORY false (parse_borrowed_items F.parse octets) kind
   ran_out m = record { kind_is = m.0; takes = m.1; faultless = λ h. absurd (cc) }
 
-  -- an item that cannot follow is a fault of the set
+  -- an item that cannot follow is an error of the set
   pub order_fault : {new : ReaderState} {v : T} (kind : ErrorKind) → 0 < length (rest now) → Decoded F now new v → CannotFollow F last v kind → Faults F.TAKES_MEMORY false (parse_borrowed_items F.parse octets) kind
   order_fault {new} {v} kind some told cannot = go last s.ends cannot
     where
@@ -105,7 +105,7 @@ module _ {T : Type 0} {F : form.Ghosts T} {octets : List ℕ} {now : ReaderState
                 inr (smaller_item some told (ap (λ e. is_le (lex e (F.encoding v))) last_is ∙ less.1) ∙ ap Err (sym less.0))
           ]
 
-  -- with one more item
+  -- one more item is read
   pub one_more_borrowed : {new : ReaderState} {v : T} (nonempty : (v : T) (b : List ℕ) → F.accepts Der v b → 0 < length b) → 0 < length (rest now) → Decoded F now new v → CanFollow F.encoding last v → BorrowedSoFar F octets new (count + 1) (Some v)
   one_more_borrowed {new} {v} nonempty some told can = record {
     read = one_more_counted s.read nonempty some told;

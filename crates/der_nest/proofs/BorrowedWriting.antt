@@ -48,7 +48,7 @@ module _ {T : Type 0} (F : form.Ghosts T) {all left : List (List ℕ)} {start no
   not_written v rest new e is fault =
       fault_within s.wrote (concat all) (F.encoding v) (concat rest) (s.parts ∙ ap (λ es. s.done ++ concat es) is) (Unit {0}) (Unit {0}) (F.re_reads v) F.TAKES_MEMORY (F.re_reads_memory v) new e fault
 
--- an item that is not measured is not measured in the whole
+-- if an item is not measured, neither is the whole
 pub not_measured : {T : Type 0} (F : form.Ghosts T) (v : T) (whole : List ℕ) (left rest : List (List ℕ)) (before : ℕ) (kind : ErrorKind) → left ≡ F.encoding v ∷ rest → before + length (concat left) ≡ length whole → Stops (F.encoding v) (F.re_reads v) kind → Stops whole F.TAKES_MEMORY kind
 not_measured F v whole left rest before kind is counted stops =
     stops_in (F.encoding v) whole (F.re_reads v) F.TAKES_MEMORY (omega (arith, ap (λ es. length (concat es)) is, length-append (F.encoding v) (concat rest))) (F.re_reads_memory v) stops

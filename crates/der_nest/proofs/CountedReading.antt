@@ -14,7 +14,7 @@ use Rattle.der_nest.specs.BorrowedSequences.{parse_all_items, item_encodings, en
 use Rattle.der_nest.proofs.EachReading.{EachSoFar, none_so_far, one_more, room, rest_now, item_fault}
 use Rattle.der_nest.proofs.SequenceReading.{sequence_fault}
 
--- so many items were read
+-- `count` items were read
 pub record CountedSoFar {T : Type 0} (F : form.Ghosts T) (octets : List ℕ) (now : ReaderState) (count : ℕ) : Type 0 where
   pub items : List T
   pub so_far : EachSoFar F (length octets) (new_reader octets Der) now items
@@ -24,7 +24,7 @@ abbrev pub none_counted : {T : Type 0} (F : form.Ghosts T) (octets : List ℕ) (
 none_counted F octets now e = record { items = []; so_far = none_so_far F (length octets) (new_reader octets Der) now e; counted = refl }
 
 module _ {T : Type 0} {F : form.Ghosts T} {octets : List ℕ} {now : ReaderState} {count : ℕ} (s : CountedSoFar F octets now count) where
-  -- with one more item
+  -- one more item is read
   abbrev pub one_more_counted : {new : ReaderState} {v : T} (nonempty : (v : T) (b : List ℕ) → F.accepts Der v b → 0 < length b) → 0 < length (rest now) → Decoded F now new v → CountedSoFar F octets new (count + 1)
   one_more_counted {new} {v} nonempty some told = record {
     items = s.items ++ v ∷ [];
@@ -32,7 +32,7 @@ module _ {T : Type 0} {F : form.Ghosts T} {octets : List ℕ} {now : ReaderState
     counted = let n = s.counted in omega (arith, length-append s.items (v ∷ []));
   }
 
-  -- a fault of the next item is one of the octets
+  -- an error of the next item is an error of the octets
   pub counted_fault : (kind : ErrorKind) → 0 < length (rest now) → Faults F.TAKES_MEMORY F.FAULTS_FIRST (unless_failed (F.parse now.rules) now) kind → Faults F.TAKES_MEMORY false (parse_all_items F.parse Der 0 octets) kind
   counted_fault kind some faults =
       let of_items = item_fault s.so_far F.TAKES_MEMORY F.FAULTS_FIRST kind refl some faults in
@@ -62,7 +62,7 @@ module _ {T : Type 0} {F : form.Ghosts T} {octets : List ℕ} {now : ReaderState
         let h = octets_fit in
         omega (arith, length-take s.so_far.taken octets)
 
-    -- where nothing is left, the octets are the items
+    -- if nothing is left, the octets are the items
     pub all_octets : rest now ≡ [] → AcceptsEach (F.accepts Der) s.items octets
     all_octets none =
         let n : take s.so_far.taken octets ≡ octets = let d = ap length (sym rest_is ∙ none) in let t : s.so_far.taken ≡ length octets = let h = taken_inside in omega (arith, length-drop s.so_far.taken octets) in ap (λ n. take n octets) t ∙ take-length octets in

@@ -1,4 +1,4 @@
--- Items that are read one after another, at most so many.
+-- Items that are read one after another, up to a capacity.
 use Rattle.std.proofs.Common.{◌≡◌, ℕ, zero, suc, ◌+◌, ◌-◌, ◌<◌, ◌≤◌, List, [], ◌∷◌, ◌++◌, length, take, drop, map, Bool, false, Result, Ok, Err, refl, sym, ap, ◌∙◌, arith, inl, inr, subst, append_assoc, add_assoc}
 use Rattle.std.proofs.Math.Seq.{take-add, take-length}
 use Rattle.std.proofs.lemmas.List.{length-append, length-take, length-drop, append-nil, map_push}
@@ -17,7 +17,7 @@ before_all-one : (es : List (List ℕ)) (e : List ℕ) (r : Result (List (List �
 before_all-one es e (Ok others) = ap Ok (sym (append_assoc es (e ∷ []) others))
 before_all-one es e (Err k) = refl
 
--- the items that were read since the reader was `old`, of at most so many, and what is left
+-- the items that were read since the reader was `old`, up to a capacity, and what is left
 pub record EachSoFar {T : Type 0} (F : form.Ghosts T) (capacity : ℕ) (old now : ReaderState) (vs : List T) : Type 0 where
   pub more : ℕ
   pub counted : length vs + more ≡ capacity
@@ -57,7 +57,7 @@ module _ {T : Type 0} {F : form.Ghosts T} {capacity : ℕ} {old now : ReaderStat
   next_fault (suc more) kind some e =
       parse_each-step more F.parse old.rules now.position (rest now) some ∙ ap (λ r. then_others r (λ n. parse_each more F.parse old.rules (now.position + n) (drop n (rest now)))) e
 
-  -- a fault of the next item is one of the list
+  -- an error of the next item is an error of the list
   pub item_fault : (memory first : Bool) (kind : ErrorKind) → old.failed ≡ false → 0 < length (rest now) → Faults memory first (unless_failed (F.parse now.rules) now) kind → Faults memory false (parse_each capacity F.parse old.rules old.position (rest old)) kind
   item_fault memory first kind ready some faults = elim faults [
     | inl m ↦ inl (record { kind_is = m.kind_is; takes = m.takes; faultless = λ h. absurd (cc) })
@@ -71,13 +71,13 @@ module _ {T : Type 0} {F : form.Ghosts T} {capacity : ℕ} {old now : ReaderStat
       let first : F.parse old.rules now.position (rest now) ≡ Ok (told.taken, F.encoding _) = ap (λ r. F.parse r now.position (rest now)) (sym same_rules) ∙ told.parsed in
       fault Overlength (ap (λ n. parse_each n F.parse old.rules now.position (rest now)) none ∙ parse_each-over F.parse old.rules now.position (rest now) some ∙ ap one_too_many first)
 
-  -- there is room as long as there are octets, if there is room for as many items as octets
+  -- the list has space for an item as long as octets are left, if the capacity is at least the number of octets
   pub room : length (rest old) ≤ capacity → 0 < length (rest now) → length vs < capacity
   room wide some =
       let n = length-each (F.accepts old.rules) vs (take so_far.taken (rest old)) so_far.accepted in
       omega (arith, length-take so_far.taken (rest old), length-drop so_far.taken (rest old), ap length rest_now)
 
-  -- with one more item
+  -- one more item is read
   pub one_more : {new : ReaderState} {v : T} (nonempty : (v : T) (b : List ℕ) → F.accepts old.rules v b → 0 < length b) → length vs < capacity → 0 < length (rest now) → Decoded F now new v → EachSoFar F capacity old new (vs ++ v ∷ [])
   one_more {new} {v} nonempty h some told =
       let m : ℕ = so_far.more - 1 in
@@ -100,7 +100,7 @@ module _ {T : Type 0} {F : form.Ghosts T} {capacity : ℕ} {old now : ReaderStat
             ∙ before_all-one (map F.encoding vs) (F.encoding v) (parse_each m F.parse old.rules (now.position + n) (drop n (rest now))) ∙ rw (rest_new, f, encoded) refl;
       }
 
-  -- less is left behind one more item
+  -- fewer octets are left after one more item
   pub smaller : {new : ReaderState} {v : T} (nonempty : (v : T) (b : List ℕ) → F.accepts old.rules v b → 0 < length b) → 0 < length (rest now) → Decoded F now new v → length (rest new) < length (rest now)
   smaller {new} {v} nonempty some told =
       let n = told.taken in

@@ -16,7 +16,7 @@ too_many_none : (r : Result (ℕ × List ℕ) ErrorKind) → encodings_or_none (
 too_many_none (Ok item) = refl
 too_many_none (Err k) = refl
 
--- no items are none
+-- no items have no encodings
 pub none_read : (parse : Parse) (rules : EncodingRules) (p : ℕ) (c : List ℕ) → encodings_read 0 parse rules p c ≡ []
 none_read parse rules p [] = ap encodings_or_none (parse_each-end 0 parse rules p)
 none_read parse rules p (x ∷ xs) =
@@ -66,7 +66,7 @@ module _ {T : Type 0} (F : form.Ghosts T) (left k : ℕ) (old new : ReaderState)
       let others : encodings_left k F.parse new ≡ encodings_read k F.parse old.rules (old.position + n.taken) (drop n.taken (rest old)) = ap (encodings_left k F.parse) told.after ∙ ap (encodings_read k F.parse old.rules (old.position + told.taken)) (rest-after_read old told.taken) ∙ ap (λ m. encodings_read k F.parse old.rules (old.position + m) (drop m (rest old))) (sym taken) in
       (F.only_readable old.rules v (take told.taken (rest old)) told.accepted, ap (λ n. encodings_left n F.parse old) is ∙ n.all ∙ ap (λ e. e ∷ encodings_read k F.parse old.rules (old.position + n.taken) (drop n.taken (rest old))) encoding ∙ ap (λ es. F.encoding v ∷ es) (sym others), ap length others ∙ n.counted)
 
-  -- it is refused only for want of memory
+  -- reading an item again fails only for lack of memory
   pub no_item : (kind : ErrorKind) → old.failed ≡ false → NotDecoded F old new kind → (kind ≡ Memory) × (F.TAKES_MEMORY ≡ true)
   no_item kind ready told =
       elim told.reason [

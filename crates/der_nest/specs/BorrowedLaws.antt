@@ -18,7 +18,7 @@ use Rattle.der_nest.specs.Lists.{AcceptsEach, before_others, join_encodings}
 use Rattle.der_nest.specs.ListLaws.{concat-map, length-each, same_length_each, accepts_each, readable_each}
 use Rattle.der_nest.specs.BorrowedSets.{Borrowed, OfItems, OfOctets, borrowed_contents, re_reads_borrowed, ComparableBorrowed, AcceptsBorrowed, ReadableBorrowed, then_in_order, parse_in_order, parse_borrowed_items, parse_borrowed}
 
--- each of the encodings is not smaller than the one before it, the first than these octets
+-- no encoding is smaller than the one before it, and the first is not smaller than these octets
 abbrev pub Follow : List ℕ → List (List ℕ) → Type 0
 Follow last [] = Unit {0}
 Follow last (e ∷ es) = (is_le (lex last e) ≡ true) × Follow e es
@@ -47,7 +47,7 @@ pub follow_in_order : (es : List (List ℕ)) → IsSorted lex es → Follow [] e
 follow_in_order [] up = tt
 follow_in_order (e ∷ es) up = (none_least e, follow_after e es up)
 
--- encodings before what the others come to
+-- encodings before the result of the others
 abbrev pub before_all : List (List ℕ) → Result (List (List ℕ)) ErrorKind → Result (List (List ℕ)) ErrorKind
 before_all encodings (Ok others) = Ok (encodings ++ others)
 before_all encodings (Err k) = Err k

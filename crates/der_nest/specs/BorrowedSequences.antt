@@ -16,11 +16,11 @@ use Rattle.der_nest.specs.SequenceLaws.{parse_of_sequence, comparable_each}
 use Rattle.der_nest.specs.OctetFaultLaws.{items_up_to_of_octets}
 use Rattle.der_nest.specs.ReReading.{encodings_or_none, encodings_read}
 
--- item after item until nothing is left, or the first fault from the left: there are no more items than octets
+-- item after item until nothing is left, or the first error from the left; the number of items is at most that of the octets
 abbrev pub parse_all_items : Parse → ContentsParse
 parse_all_items parse rules p octets = parse_sequence_of (length octets) parse rules p octets
 
--- the encodings of the items that contents octets are read as, from their own beginning and under DER
+-- the encodings of the items that contents octets are read as, from position 0 and under DER
 abbrev pub item_encodings : Parse → List ℕ → List (List ℕ)
 item_encodings parse octets = encodings_read (length octets) parse Der 0 octets
 
@@ -45,6 +45,6 @@ items_format F = record {
   re_reads_memory = re_reads_items F;
 }
 
--- octets that are read as items have their encodings
+-- octets that are read as items have the items' encodings
 pub encodings_of_items : {T : Type 0} (F : form.Ghosts T) (vs : List T) (octets : List ℕ) → AcceptsEach (F.accepts Der) vs octets → Fits octets → item_encodings F.parse octets ≡ map F.encoding vs
 encodings_of_items F vs octets a fits = ap encodings_or_none (parse_of_each F Der vs (length octets) 0 octets (length-each (F.accepts Der) vs octets a) a fits)

@@ -1,4 +1,4 @@
--- What comparing two borrowed sets answers.
+-- The result of comparing two borrowed sets.
 use Rattle.std.specs.Prelude.{Result}
 use Rattle.std.specs.declared.cmp.Ordering.{Ordering}
 use Rattle.der_tlv.specs.declared.error.ErrorKind.{ErrorKind}
@@ -11,6 +11,6 @@ use Rattle.der_nest.specs.BorrowedSets.{Borrowed, borrowed_contents, re_reads_bo
 abbrev pub IncomparableBorrowed : {T : Type 0} → form.Ghosts T → Borrowed T → Borrowed T → ErrorKind → Type 0
 IncomparableBorrowed F v w = IncomparableOctets (borrowed_contents F.encoding v) (borrowed_contents F.encoding w) (ComparableBorrowed F v w → ⊥) (re_reads_borrowed F v) (re_reads_borrowed F w)
 
--- what comparing the contents octets of two sets answers
+-- the result of comparing the contents octets of two sets
 abbrev pub ComparesBorrowed : {T : Type 0} → form.Ghosts T → Borrowed T → Borrowed T → Result Ordering Error → Type 0
 ComparesBorrowed F v w = ComparesOctets (borrowed_contents F.encoding v) (borrowed_contents F.encoding w) (ComparableBorrowed F v w → ⊥) (re_reads_borrowed F v) (re_reads_borrowed F w)

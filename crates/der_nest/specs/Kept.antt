@@ -1,4 +1,4 @@
--- What a Kept shows.
+-- The value of a Kept that a caller sees.
 use Rattle.std.specs.Prelude.{ℕ, List}
 use Rattle.der_opaque.specs.OctetStringRef as string
 use Rattle.der_nest.specs.declared.kept.Kept.{Kept}

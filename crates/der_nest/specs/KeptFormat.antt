@@ -1,4 +1,4 @@
--- Contents octets that were read as those of a value, under DER, and are kept as they came.
+-- Contents octets that were read as those of a value, under DER, and are kept as they were read.
 use Rattle.std.specs.Prelude.{◌≡◌, ℕ, ◌+◌, min, List, length, Bool, true, false, Option, Some, None, Result, Ok, Err, refl}
 use Rattle.std.proofs.Common.{◌∙◌, ap, subst, sym}
 use Rattle.der_tlv.specs.declared.error.ErrorKind.{ErrorKind}
@@ -15,16 +15,16 @@ pub record AreContentsOf {T : Type 0} (F : ContentsFormat T) (octets : List ℕ)
   pub value : T
   pub accepted : F.accepts Der value octets
 
--- the octets themselves, where they are read as a value
+-- the octets themselves, if they are read as a value
 abbrev pub as_they_came : List ℕ → Result (List ℕ) ErrorKind → Result (List ℕ) ErrorKind
 as_they_came octets (Ok contents) = Ok octets
 as_they_came octets (Err kind) = Err kind
 
--- what contents octets that are to be kept come to, whatever the rules: they are read under DER, from position 0 on
+-- the result of parsing contents octets to be kept, whatever the rules: they are read under DER, from position 0
 abbrev pub parse_kept : ContentsParse → ContentsParse
 parse_kept parse rules p octets = as_they_came octets (parse Der 0 octets)
 
--- the position of a fault of contents octets, from the first octet of all: so many octets stand before the contents octets
+-- the position of an error in contents octets, relative to the first octet of all; the contents octets are at this offset
 abbrev pub position_behind : ℕ → Option ℕ → Option ℕ
 position_behind begin (Some position) = Some (min (begin + position) 4294967295)
 position_behind begin None = None
@@ -42,7 +42,7 @@ module _ {V T : Type 0} (octets_of : V → List ℕ) (F : ContentsFormat T) wher
     pub own : octets_of v ≡ octets
     pub read : AreContentsOf F octets
 
-  -- the octets were read as those of a value and are kept, or there is none: memory ran out, or this is their first fault
+  -- the octets were read as those of a value and are kept, or nothing is kept: memory ran out, or this is their first error
   abbrev pub KeepsContents : List ℕ → Result V Error → Type 0
   KeepsContents octets (Ok kept) = Keeps kept octets
   KeepsContents octets (Err e) = Faults F.TAKES_MEMORY F.FAULTS_FIRST (F.parse Der 0 octets) e.kind
@@ -50,7 +50,7 @@ module _ {V T : Type 0} (octets_of : V → List ℕ) (F : ContentsFormat T) wher
   pub parse_of_kept : (v : V) (octets : List ℕ) → Keeps v octets → Fits octets → as_they_came octets (F.parse Der 0 octets) ≡ Ok (octets_of v)
   parse_of_kept v octets k fits = ap (as_they_came octets) (F.parse_of_accepted Der k.read.value 0 octets k.read.accepted fits) ∙ ap Ok (sym k.own)
 
-  -- the contents octets of a type, kept as they came
+  -- the contents octets of a type, kept as they were read
   abbrev pub kept_format : ContentsFormat V
   kept_format = record {
     contents = octets_of;

@@ -51,7 +51,7 @@ pub lex_le_trans : (x y z : List ℕ) → is_le (lex x y) ≡ true → is_le (le
 lex_le_trans x y z h k =
     le_of (lex x z) (upto nat_list_cmp_total x y z (not_gt (lex x y) h) (not_gt (lex y z) k))
 
--- each isn't greater than the other: they are one
+-- if each is not greater than the other, they are equal
 pub lex_le_same : (x y : List ℕ) → is_le (lex x y) ≡ true → is_le (lex y x) ≡ true → x ≡ y
 lex_le_same x y h k = go (lex x y) refl h
   where

@@ -29,7 +29,7 @@ unfolding parse_each
 parse_each-step more parse rules p [] h = absurd (omega arith)
 parse_each-step more parse rules p (x ∷ xs) h = refl
 
--- joined, the encodings of items are one after another
+-- joining the encodings of items puts them one after another
 pub concat-map : {T : Type 0} (encoding : T → List ℕ) (vs : List T) → concat (map encoding vs) ≡ flat_map encoding vs
 concat-map encoding [] = refl
 concat-map encoding (v ∷ vs) = ap (λ s. encoding v ++ s) (concat-map encoding vs)

@@ -1,4 +1,4 @@
--- Lists of one item or more: the type constrained by SIZE (1..MAX) (X.680 51.5).
+-- Lists of at least one item: the type constrained by SIZE (1..MAX) (X.680 51.5).
 use Rattle.std.proofs.Common.{◌≡◌, ℕ, ◌<◌, List, [], ◌∷◌, length, Err, refl, sym, ◌∙◌, subst, arith}
 use Rattle.der_tlv.specs.declared.encoding_rules.EncodingRules.{EncodingRules}
 use Rattle.der_tlv.specs.declared.error.ErrorKind.TheVariants.{Value}
@@ -7,12 +7,12 @@ use Rattle.der_tlv.specs.OctetFaults.{IsOfOctets}
 use Rattle.der_elem.specs.ContentsFormat.{ContentsFormat}
 use Rattle.der_elem.specs.Parsing.{ContentsParse}
 
--- no contents octets are no value of the type (13); others are parsed as the list
+-- empty contents octets are not a value of the type (13); others are parsed as the list
 abbrev pub parse_some : Tag → ContentsParse → ContentsParse
 parse_some tag parse rules p [] = Err (Value tag)
 parse_some tag parse rules p (x ∷ xs) = parse rules p (x ∷ xs)
 
--- the octets are accepted as the list, and there are some
+-- the octets are accepted as the list and are not empty
 abbrev pub AcceptsSome : {T : Type 0} → (T → List ℕ → Type 0) → T → List ℕ → Type 0
 AcceptsSome accepts v octets = accepts v octets × (0 < length octets)
 
@@ -20,22 +20,22 @@ AcceptsSome accepts v octets = accepts v octets × (0 < length octets)
 abbrev pub ReadableSome : {T : Type 0} → (T → Type 0) → (T → List ℕ) → T → Type 0
 ReadableSome readable contents v = readable v × (0 < length (contents v))
 
--- where there are octets, they are parsed as the list
+-- octets that are not empty are parsed as the list
 pub parse_of_some : (tag : Tag) (parse : ContentsParse) (rules : EncodingRules) (p : ℕ) (c : List ℕ) → 0 < length c → parse_some tag parse rules p c ≡ parse rules p c
 parse_of_some tag parse rules p [] some = absurd (omega (arith, some))
 parse_of_some tag parse rules p (x ∷ xs) some = refl
 
--- where there are none, they are no value
+-- empty octets are not a value
 pub parse_of_none : (tag : Tag) (parse : ContentsParse) (rules : EncodingRules) (p : ℕ) (c : List ℕ) → c ≡ [] → parse_some tag parse rules p c ≡ Err (Value tag)
 parse_of_none tag parse rules p [] none = refl
 parse_of_none tag parse rules p (x ∷ xs) none = absurd (cc)
 
--- none of the faults is want of memory, or that of a reader that had failed
+-- the errors are neither lack of memory nor the error of a reader that had failed before
 pub some_of_octets : (tag : Tag) (parse : ContentsParse) (faults : (rules : EncodingRules) (p : ℕ) (c : List ℕ) → IsOfOctets (parse rules p c)) (rules : EncodingRules) (p : ℕ) (c : List ℕ) → IsOfOctets (parse_some tag parse rules p c)
 some_of_octets tag parse faults rules p [] = refl
 some_of_octets tag parse faults rules p (x ∷ xs) = faults rules p (x ∷ xs)
 
--- what the octets of a list mean, of which there is one item or more
+-- the meaning of the octets of a list of at least one item
 abbrev pub non_empty_format : {T : Type 0} → Tag → ContentsFormat T → ContentsFormat T
 non_empty_format tag F = record {
   contents = F.contents;

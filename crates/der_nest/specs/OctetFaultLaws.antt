@@ -1,4 +1,4 @@
--- The faults of lists and sets are of their octets, where those of the items are.
+-- The errors of lists and sets are errors of their octets, if those of the items are.
 use Rattle.std.proofs.Common.{ℕ, zero, suc, ◌+◌, List, [], ◌∷◌, length, drop, Result, Ok, Err, refl}
 use Rattle.std.specs.Ordering.{is_le}
 use Rattle.der_tlv.specs.declared.error.ErrorKind.{ErrorKind}

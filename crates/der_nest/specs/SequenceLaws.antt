@@ -1,4 +1,4 @@
--- The laws of sequences of at most so many items, from those of their items.
+-- The laws of sequences up to a capacity, from the laws of their items.
 use Rattle.std.proofs.Common.{◌≡◌, ℕ, List, length, Ok, ap, ◌∙◌, arith, flat_map}
 use Rattle.der_tlv.specs.declared.encoding_rules.EncodingRules.{EncodingRules}
 use Rattle.der_elem.specs.declared.form.Form as form

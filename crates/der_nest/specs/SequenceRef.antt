@@ -1,4 +1,4 @@
--- What a SequenceRef shows.
+-- The value of a SequenceRef that a caller sees.
 use Rattle.std.specs.Prelude.{ℕ, List}
 use Rattle.der_nest.specs.declared.sequence_ref.SequenceRef.{SequenceRef}
 

@@ -14,12 +14,12 @@ use Rattle.der_nest.specs.ListLaws.{concat-map, parse_of_each, same_length_each,
 use Rattle.der_nest.specs.UniqueLaws.{unique_in_order, sorted_sorted, IsPermutation-sort_encodings}
 use Rattle.der_nest.specs.Sets.{AcceptsSet, AcceptsSetUpTo, ReadableSet, ReadableSetUpTo, joined_in_order, parse_set_up_to}
 
--- the encodings of items, put in order, are those of the items put in order
+-- the sorted encodings of items are the encodings of the sorted items
 pub sorted_items : {T : Type 0} (encoding : T → List ℕ) (items vs : List T) → IsPermutation items vs → IsInOrder encoding vs → sort_encodings (map encoding items) ≡ map encoding vs
 sorted_items encoding items vs same up =
     unique_in_order (sort_encodings (map encoding items)) (map encoding vs) (sorted_sorted (map encoding items)) up (IsPermutation-trans (sort_encodings (map encoding items)) (map encoding items) (map encoding vs) (IsPermutation-sym (map encoding items) (sort_encodings (map encoding items)) (IsPermutation-sort_encodings (map encoding items))) (IsPermutation-map encoding items vs same))
 
--- how many octets joined encodings have
+-- the number of octets of joined encodings
 length_joined : {T : Type 0} (encoding : T → List ℕ) (vs : List T) → length (flat_map encoding vs) ≡ sum_by (λ v. length (encoding v)) vs
 length_joined encoding [] = refl
 length_joined encoding (v ∷ vs) =
@@ -48,7 +48,7 @@ module _ {T : Type 0} (F : form.Ghosts T) (rules : EncodingRules) where
   pub comparable_set : (vs ws : List T) (c d : List ℕ) → AcceptsSet F.encoding (F.accepts rules) vs c → AcceptsSet F.encoding (F.accepts rules) ws d → AllComparable F.comparable vs ws
   comparable_set vs ws c d a b = all_comparable F rules (length c) (length d) vs ws (parts_of_set vs c a) (parts_of_set ws d b)
 
--- the same of sets of at most so many items
+-- the laws of sets up to a capacity
 module _ {T : Type 0} (F : form.Ghosts T) (rules : EncodingRules) (capacity : ℕ) where
   pub parse_of_set_up_to : (vs : List T) (p : ℕ) (c : List ℕ) → AcceptsSetUpTo capacity F.encoding (F.accepts rules) vs c → Fits c → parse_set_up_to capacity F.parse rules p c ≡ Ok (flat_map F.encoding vs)
   parse_of_set_up_to vs p c (h, a) fits = let l = length_permutation a.items vs a.same_items in parse_of_set F rules vs capacity p c a (omega arith) fits

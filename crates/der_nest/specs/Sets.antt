@@ -14,24 +14,24 @@ pub record AcceptsSet {T : Type 0} (encoding : T → List ℕ) (accepts : T → 
   pub same_items : IsPermutation items vs
   pub in_order : IsInOrder encoding vs
 
--- readable items, whose encodings have octets and stand in order
+-- readable items, whose encodings have octets and are in order
 abbrev pub ReadableSet : {T : Type 0} → (T → Type 0) → (T → List ℕ) → List T → Type 0
 ReadableSet readable encoding vs = All (λ v. readable v × (0 < length (encoding v))) vs × IsInOrder encoding vs
 
--- the encodings, put in order and joined
+-- the encodings, sorted and joined
 abbrev pub joined_in_order : Result (List (List ℕ)) ErrorKind → Result (List ℕ) ErrorKind
 joined_in_order (Ok encodings) = Ok (concat (sort_encodings encodings))
 joined_in_order (Err k) = Err k
 
--- item after item until nothing is left, at most so many; the first fault from the left
+-- item after item until nothing is left, up to a capacity; the first error from the left
 abbrev pub parse_set_up_to : ℕ → Parse → ContentsParse
 parse_set_up_to capacity parse rules p octets = joined_in_order (parse_each capacity parse rules p octets)
 
--- the same of any number of items, of which there are no more than octets
+-- any number of items; the number of items is at most that of the octets
 abbrev pub parse_set : Parse → ContentsParse
 parse_set parse rules p octets = parse_set_up_to (length octets) parse rules p octets
 
--- sets of at most so many items
+-- sets up to a capacity
 abbrev pub AcceptsSetUpTo : {T : Type 0} → ℕ → (T → List ℕ) → (T → List ℕ → Type 0) → List T → List ℕ → Type 0
 AcceptsSetUpTo capacity encoding accepts vs octets = (length vs ≤ capacity) × AcceptsSet encoding accepts vs octets
 

@@ -1,4 +1,4 @@
-//! Equality, order, hashes and debug texts of sequences and sets, which are those of their items.
+//! Equality, order, hash and debug text of sequences and sets, which come from their items.
 
 ghost use Rattle.std.specs.Cmp.Lexicographic.{slice_cmp, slice_partial_cmp, lists_equiv, lists_agrees, lists_total, lists_ties, lists_po};
 ghost use Rattle.std.specs.Hash as hashed;
@@ -40,8 +40,7 @@ impl<T: Form + Ord> Ord for SetOfVec<T> {
 
     ghost matches_eq = { lists_ties T.cmp T.matches_eq };
 
-    /// The order of the items as values, and then of their number; `der_cmp` is that of the
-    /// encodings.
+    /// Compares the items as values, then their number. `der_cmp` compares the encodings instead.
     fn cmp(&self, other: &SetOfVec<T>) -> Ordering {
         self.as_slice().cmp(&other.as_slice())
     }
@@ -80,8 +79,7 @@ impl<T: Ord, M: ItemOrder<T>> Ord for ItemSet<T, M> {
 
     ghost matches_eq = { lists_ties T.cmp T.matches_eq };
 
-    /// The order of the items as values, and then of their number; `der_cmp` is that of the
-    /// encodings.
+    /// Compares the items as values, then their number. `der_cmp` compares the encodings instead.
     fn cmp(&self, other: &ItemSet<T, M>) -> Ordering {
         self.as_slice().cmp(&other.as_slice())
     }
@@ -120,8 +118,7 @@ impl<T: Form + Ord, const N: usize> Ord for SetOf<T, N> {
 
     ghost matches_eq = { lists_ties T.cmp T.matches_eq };
 
-    /// The order of the items as values, and then of their number; `der_cmp` is that of the
-    /// encodings.
+    /// Compares the items as values, then their number. `der_cmp` compares the encodings instead.
     fn cmp(&self, other: &SetOf<T, N>) -> Ordering {
         self.as_slice().cmp(&other.as_slice())
     }
@@ -166,7 +163,7 @@ impl<T: fmt::Debug, const N: usize> fmt::Debug for SequenceOf<T, N> {
 }
 
 impl<'a, T: Form> fmt::Debug for SetOfRef<'a, T> {
-    /// How many items there are; they are not read again.
+    /// Writes the number of items; they are not read again.
     fn fmt<W: fmt::Write>(&self, f: &mut fmt::Formatter<W>) -> fmt::Result {
         f.debug_struct("SetOfRef")
             .field("len", &self.len())
@@ -175,7 +172,7 @@ impl<'a, T: Form> fmt::Debug for SetOfRef<'a, T> {
 }
 
 impl<'a, T: Decode<'a, SliceReader<'a>> + Duplicate> fmt::Debug for SetOfRefIter<'a, T> {
-    /// How many items are still to come; they are not read again.
+    /// Writes the number of items that are left; they are not read again.
     fn fmt<W: fmt::Write>(&self, f: &mut fmt::Formatter<W>) -> fmt::Result {
         f.debug_struct("SetOfRefIter")
             .field("len", &self.len())

@@ -1,4 +1,4 @@
-//! Lists that say how many items they have.
+//! Lists whose number of items is known.
 
 ghost use Rattle.std.specs.Prelude.{◌≡◌, ℕ, ◌<◌, ◌↔◌, IsTrue, [], length};
 ghost use Rattle.der_nest.specs.ItemCounts.{no_items, same_count};
@@ -8,21 +8,22 @@ use crate::item_set::ItemSet;
 use crate::set_of_vec::SetOfVec;
 use der_elem::{Duplicate, DuplicateValue, Form, FormValue};
 
-/// A list that says how many items it has.
+/// A list whose number of items is known.
 pub trait ItemCount {
     ghost item_count: { Self → ℕ };
 
-    /// Whether it has an item.
+    /// Returns whether the list has an item.
     fn has_items(&self) -> bool
         ensures { IsTrue result ↔ (0 < item_count self.now) };
 }
 
-/// A list whose contents octets are those of its items: where it has none, there are none.
+/// A list whose contents octets are those of its items: a list of no items has no contents
+/// octets.
 pub trait ItemContents: ItemCount + FormValue {
     ghost no_contents: { (v : Self) → Self.item_count v ≡ 0 → Self.value.contents v ≡ [] };
 }
 
-/// A list of which a copy has as many items.
+/// A list whose copies have the same number of items.
 pub trait DuplicateItems: ItemCount + DuplicateValue {
     ghost same_count: { (v w : Self) → Self.is_copy_value v w
         → Self.item_count w ≡ Self.item_count v };

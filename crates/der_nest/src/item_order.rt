@@ -1,9 +1,9 @@
-//! How the items of a set are ordered, as a type (X.690 11.6).
+//! The order of the items of a set, as a type (X.690 11.6).
 //!
-//! A SET OF stands in the order of its items' encodings. A set that names its order, `ItemSet<T, M>`,
-//! asks its items for no more than that `M` says what they are ordered by. So its items may be of a
-//! type with a `Form` of its own: values of any type, a CHOICE, or a list of fields with such a
-//! field. A marker of the user's own takes seven lines:
+//! The items of a SET OF are in the order of their encodings. A set that names its order,
+//! `ItemSet<T, M>`, requires only that `M` defines the order of its items. So the type of the
+//! items may have its own `Form`: it may be values of any type, a CHOICE, or a list of fields
+//! with such a field. A user's own marker takes seven lines:
 //!
 //! ```rust
 //! pub struct ByName;
@@ -22,17 +22,17 @@ ghost use Rattle.std.specs.Prelude.{◌≡◌, ℕ, List, refl};
 use der_elem::Form;
 use der_opaque::{Any, AnyRef};
 
-/// What the items of a set are ordered by, named by a type.
+/// The encoding that orders the items of a set, named by a type.
 pub trait ItemOrder<T> {
     ghost item_encoding: { T → List ℕ };
 }
 
-/// An order that is that of the items' encodings (X.690 11.6).
+/// An order that is the order of the items' encodings (X.690 11.6).
 pub trait OrdersByEncoding<T: Form>: ItemOrder<T> {
     ghost is_encoding: { Self.item_encoding ≡ T.encoding };
 }
 
-/// The order of the encodings, of items whose `Form` is known to be the only one, as `u16`.
+/// The order of the encodings, for items whose only `Form` is known, such as `u16`.
 pub struct ByEncoding;
 
 impl<T: Form> ItemOrder<T> for ByEncoding {
@@ -43,8 +43,8 @@ impl<T: Form> OrdersByEncoding<T> for ByEncoding {
     ghost is_encoding = { refl };
 }
 
-/// The order of values of any type, in `ItemSet<AnyRef, Values>` and `ItemSet<Any, Values>`: that of
-/// their whole encodings, so the tag counts first.
+/// The order of values of any type, in `ItemSet<AnyRef, Values>` and `ItemSet<Any, Values>`. It
+/// compares whole encodings, so the tag counts first.
 pub struct Values;
 
 impl<'a> ItemOrder<AnyRef<'a>> for Values {

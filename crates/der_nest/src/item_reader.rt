@@ -1,4 +1,4 @@
-//! Items that are read again from octets that were read before.
+//! Reading items again from octets that were read before.
 
 ghost use Rattle.std.specs.Prelude.{◌≡◌, ◌<◌, ◌^◌, false, length};
 ghost use Rattle.der_tlv.specs.declared.encoding_rules.EncodingRules.TheVariants.{Der};
@@ -10,7 +10,7 @@ use der_tlv::{Error, SliceReader};
 use std::alloc::Global;
 use std::marker::PhantomData;
 
-/// A reader of so many items more.
+/// A reader of a given number of further items.
 #[derive(Drop)]
 pub(crate) struct ItemReader<'a, T: Form> {
     reader: SliceReader<'a>,
@@ -22,7 +22,7 @@ pub(crate) struct ItemReader<'a, T: Form> {
 }
 
 impl<'a, T: Form> ItemReader<'a, T> {
-    /// A reader of the same items.
+    /// Returns a reader of the same items.
     pub(crate) fn same(&self) -> ItemReader<'a, T>
         ensures left { result.left ≡ self.now.left }
         ensures reader { slice_reader_state result.reader ≡ slice_reader_state self.now.reader }
@@ -38,7 +38,7 @@ impl<'a, T: Form> ItemReader<'a, T> {
         }
     }
 
-    /// A reader of the items that octets are read as, from their own beginning and under DER.
+    /// Creates a reader of `count` items of the octets, from position 0 and under DER.
     pub(crate) fn new(alloc: Global, octets: &'a [u8], count: usize) -> ItemReader<'a, T>
         requires short { length octets.now < 2 ^ 32 }
         requires counted { length (encodings_read count T.parse Der 0 octets.now) ≡ count }
@@ -58,7 +58,7 @@ impl<'a, T: Form> ItemReader<'a, T> {
 }
 
 impl<'a, T: Decode<'a, SliceReader<'a>>> ItemReader<'a, T> {
-    /// The next item, read again. After a refusal none follows.
+    /// Reads the next item again. After an error there are no more items.
     pub(crate) fn next(&mut self) -> Option<Result<T, Error>>
         ensures { ReReads T.Form
             (encodings_left self.old.left T.parse (slice_reader_state self.old.reader))
@@ -79,11 +79,11 @@ impl<'a, T: Decode<'a, SliceReader<'a>>> ItemReader<'a, T> {
         }
     }
 
-    /// The item at a place among those that are left, if there is one, read again after those before
-    /// it.
+    /// Reads again the item at an index among those that are left, after the items before it.
+    /// Returns `None` if there is no such item.
     ///
     /// # Errors
-    /// `ErrorKind::Memory` (1) where an item takes memory.
+    /// `ErrorKind::Memory` (1) if an item takes memory and none is left.
     pub(crate) fn at(mut self, index: usize) -> Option<Result<T, Error>>
         ensures { ReReadsAt T.Form
             (encodings_left self.entry.left T.parse (slice_reader_state self.entry.reader)) index

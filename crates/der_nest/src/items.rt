@@ -8,10 +8,10 @@ use arrayvec::ArrayVec;
 use der_elem::Duplicate;
 use der_tlv::Error;
 
-/// Copies of the items.
+/// Copies the items.
 ///
 /// # Errors
-/// `ErrorKind::Memory` (1) where copying an item takes memory, and it runs out.
+/// `ErrorKind::Memory` (1) if copying an item takes memory, and memory runs out.
 pub(crate) fn duplicate_items<T: Duplicate + Default, const N: usize>(
     items: &[T],
 ) -> Result<ArrayVec<T, N>, Error>

@@ -1,13 +1,14 @@
-//! The contents octets of a value, kept as they came once they were read as such (X.690 8.1.4).
+//! The contents octets of a value, checked and kept as they were read (X.690 8.1.4).
 //!
 //! The tag and the octets are those of the type: a `Kept` of a list of INTEGERs keeps 02 01 05 of
-//! 30 03 02 01 05. What is kept is written as it came, and is known to be a value of the type; who
-//! wants the value has it read again.
+//! 30 03 02 01 05. The octets are written as they were read, and are known to be a value of the
+//! type. `value` reads the value again.
 //!
-//! Reading refuses with the first fault that the type finds in the contents octets, which are read by
-//! a reader of their own, under DER, and with `ErrorKind::Memory` (1) where the type takes memory. The
-//! lengths within a fault count from the first of the contents octets; its position counts, as
-//! everywhere, from the first octet of all.
+//! Decoding fails with the first error that the type finds in the contents octets, and with
+//! `ErrorKind::Memory` (1) if the type takes memory and none is left. A reader of the contents
+//! octets alone reads them, under DER. A length within an error is relative to the first of the
+//! contents octets. The position of an error is, as everywhere, relative to the first octet of
+//! all.
 
 ghost use Rattle.std.specs.Prelude.{◌≡◌, ◌<◌, ◌^◌, ⊤, length};
 ghost use Rattle.std.specs.Cmp.{on_per, on_equiv};
@@ -30,7 +31,8 @@ use std::cmp::Ordering;
 use std::fmt;
 use std::marker::PhantomData;
 
-/// The contents octets of a value of the type `T`, borrowed: at most 4294967295 of them.
+/// The contents octets of a value of the type `T`, borrowed. There are at most 4294967295 of
+/// them.
 #[derive(Drop)]
 pub struct Kept<'a, T> {
     octets: OctetStringRef<'a>,
@@ -40,7 +42,7 @@ pub struct Kept<'a, T> {
 impl<'a, T> Kept<'a, T> {
     ghost use Rattle.der_nest.specs.Kept.{octets_of};
 
-    /// The contents octets.
+    /// Returns the contents octets.
     pub fn as_bytes(self) -> &'a [u8]
         ensures { result.now ≡ octets_of self.entry }
     {
@@ -51,11 +53,11 @@ impl<'a, T> Kept<'a, T> {
 impl<'a, T: OneTag + Choice + DecodeValue<'a, SliceReader<'a>>> Kept<'a, T> {
     ghost use Rattle.der_nest.specs.Kept.{octets_of};
 
-    /// The value that the contents octets are of.
+    /// Reads the value of the contents octets.
     ///
     /// # Errors
-    /// `ErrorKind::Memory` (1) where the type takes memory; the first fault of the octets, of which
-    /// what was read has none.
+    /// `ErrorKind::Memory` (1) if the type takes memory and none is left; otherwise the first
+    /// error in the octets. Octets that were read have no such error.
     pub fn value(self, alloc: Global) -> Result<T, Error>
         ensures { DecodesAs T.Form T.value Der T.Marker.TAG (octets_of self.entry) result }
     {
@@ -82,7 +84,7 @@ impl<'a, T> Clone for Kept<'a, T> {
 impl<'a, T> Copy for Kept<'a, T> {}
 
 impl<'a, T> fmt::Debug for Kept<'a, T> {
-    /// The octets, as those of an OCTET STRING are shown.
+    /// Writes the octets as an OCTET STRING shows them.
     fn fmt<W: fmt::Write>(&self, f: &mut fmt::Formatter<W>) -> fmt::Result {
         fmt::Debug::fmt(&self.octets, f)
     }
@@ -112,7 +114,7 @@ impl<'a, T: FormValue> FormValue for Kept<'a, T> {
     ghost value = { kept_format octets_of T.value };
 }
 
-/// Keeps contents octets after a tag if a value is read from them.
+/// Keeps the contents octets after a tag if they are those of a value.
 fn keep<'a, T: DecodeValue<'a, SliceReader<'a>>>(
     alloc: Global,
     tag: Tag,
@@ -137,7 +139,7 @@ fn keep<'a, T: DecodeValue<'a, SliceReader<'a>>>(
     Ok(Kept { octets, of })
 }
 
-/// A fault of contents octets, before the first of which so many octets stand.
+/// Moves the position of an error in contents octets by the offset of those octets.
 fn behind(begin: Length, error: Error) -> Error
     ensures kind { result.kind ≡ error.kind }
     ensures position { result.position ≡ position_behind begin error.position }

@@ -1,4 +1,4 @@
-//! Laws of sets and of sequences: functions that do little, and promise what holds of all.
+//! Laws of sets and sequences: functions that do little and state what holds for all of them.
 
 ghost use Rattle.std.specs.Prelude.{◌≡◌, ℕ, List, [], ◌∷◌, ◌++◌, map, flat_map};
 ghost use Rattle.std.specs.List.Sorted.{IsPermutation, IsSorted};
@@ -24,8 +24,8 @@ use der_elem::{FixedTag, Form, FormValue};
 use der_tlv::Tag;
 use std::cmp::Ordering;
 
-/// Encodings that are inserted one after another come to one list, whatever their order: the same
-/// encodings, each as often, and none greater than the next.
+/// Encodings that are inserted one after another result in one list, whatever order they came in:
+/// it has the same encodings, each as often, and none is greater than the next.
 #[tactic(auto, using(crate::proofs::Unique::laws))]
 pub fn sorted_is_one_list()
     ensures one { (ss ts : List (List ℕ)) → IsPermutation ss ts
@@ -36,8 +36,8 @@ pub fn sorted_is_one_list()
         → sort_encodings ss ≡ ts }
 {}
 
-/// The encodings of a set's items are those of the items inserted, in order, whatever the order in
-/// which they were inserted.
+/// The encodings of a set's items are the sorted encodings of the inserted items, whatever order
+/// they were inserted in.
 #[tactic(auto, using(crate::proofs::Unique::laws))]
 pub fn set_is_sorted<T: Form>()
     ensures encoded { (xs : List T) → map T.encoding (insert_each T.encoding [] xs)
@@ -46,13 +46,14 @@ pub fn set_is_sorted<T: Form>()
         (insert_each T.encoding [] xs) ≡ map T.encoding (insert_each T.encoding [] ys) }
 {}
 
-/// The history of a set: after any calls, it is the set of the items that came by them, one after
-/// another, and there is one such list. It has the same items, in the non-decreasing order of their
-/// encodings, and those with equal encodings in the order in which they came.
+/// The history of a set. After any calls, the set is the set of the items that came by those
+/// calls, one after another, and there is only one such list. It has the same items, in the
+/// non-decreasing order of their encodings; items with equal encodings are in the order in which
+/// they came.
 ///
-/// An empty set is that of no items. `insert` gives what `inserted` says, `insert_ordered` what
-/// `ordered` says, and `extend`, `from_iter`, `from_array` and `try_from` what `extended` says. What
-/// came in another order has the same contents octets.
+/// An empty set is the set of no items. `inserted` states the result of `insert`, `ordered` that
+/// of `insert_ordered`, and `extended` that of `extend`, `from_iter`, `from_array` and
+/// `try_from`. Items that came in another order have the same contents octets.
 pub fn set_of_what_came<T: Form>()
     ensures none { IsSetOf T.encoding [] [] }
     ensures inserted { (came set : List T) (item : T) → IsSetOf T.encoding came set
@@ -69,24 +70,24 @@ pub fn set_of_what_came<T: Form>()
         → IsSetOf T.encoding ys b → flat_map T.encoding a ≡ flat_map T.encoding b }
 {}
 
-/// The items that a borrowed sequence gives are those that its octets are read as: the encodings are
-/// theirs.
+/// The items that a borrowed sequence gives are those that its octets are read as: they have the
+/// same encodings.
 #[tactic(auto, using(crate::specs::BorrowedSequences::encodings_of_items))]
 pub fn sequence_gives_its_items<T: Form>()
     ensures { (octets : List ℕ) (vs : List T) → AcceptsEach (T.accepts Der) vs octets
         → Fits octets → item_encodings T.parse octets ≡ map T.encoding vs }
 {}
 
-/// Two SEQUENCEs that are not looked at are ordered by their contents octets.
+/// Compares two SEQUENCEs by their contents octets, which are not decoded.
 pub fn sequences_by_contents<'a>(one: SequenceRef<'a>, other: SequenceRef<'a>) -> Ordering
     ensures { result ≡ lex (octets_of one.entry) (octets_of other.entry) }
 {
     one.cmp(&other)
 }
 
-/// The tags of the types (X.680 8.6): of `SetOfVec`, `ItemSet`, `SetOf`, `SetOfRef`, `SequenceOf`,
-/// `SequenceOfRef` and `SequenceRef`; and of `NonEmpty`, that of its list: of a set and of a
-/// sequence.
+/// Returns the tags of the types (X.680 8.6): of `SetOfVec`, `ItemSet`, `SetOf`, `SetOfRef`,
+/// `SequenceOf`, `SequenceOfRef` and `SequenceRef`. `NonEmpty` has the tag of its list: here of a
+/// set and of a sequence.
 pub fn universal_tags() -> [Tag; 9]
     ensures { result ≡ tags.Set ∷ tags.Set ∷ tags.Set ∷ tags.Set ∷ tags.Sequence ∷ tags.Sequence
         ∷ tags.Sequence ∷ tags.Set ∷ tags.Sequence ∷ [] }

@@ -1,9 +1,9 @@
 //! SEQUENCE SIZE (1..MAX) OF and SET SIZE (1..MAX) OF, which are `NonEmpty` (X.680 51.5).
 //!
-//! It has the tag, the octets, the order and the refusals of the list that it is of: `Vec<T>`,
-//! `SetOfVec<T>` or `ItemSet<T, M>`. So the INTEGER 5 alone is 30 03 02 01 05 in a
-//! `NonEmpty<Vec<u8>>`. A list of no items, 30 00, is none: reading refuses it after the header, and
-//! `new` answers the same (`ErrorKind::Value`, 13, with the list's tag).
+//! A `NonEmpty` has the tag, the octets, the order and the errors of its list: `Vec<T>`,
+//! `SetOfVec<T>` or `ItemSet<T, M>`. The INTEGER 5 alone is 30 03 02 01 05 in a
+//! `NonEmpty<Vec<u8>>`. A list of no items, 30 00, is not a `NonEmpty`: decoding fails after the
+//! header, and `new` returns the same error (`ErrorKind::Value`, 13, with the list's tag).
 
 ghost use Rattle.std.specs.Prelude.{◌≡◌, ◌<◌, IfOk, IfErr, OnOk};
 ghost use Rattle.der_tlv.specs.declared.error.ErrorKind.TheVariants as kinds;
@@ -20,7 +20,7 @@ use std::cmp::Ordering;
 use std::fmt;
 use std::marker::Model;
 
-/// A list that has an item.
+/// A list that has at least one item.
 #[derive(Drop)]
 pub struct NonEmpty<L: ItemCount> {
     list: L,
@@ -35,7 +35,7 @@ impl<L: ItemCount> Model for NonEmpty<L> {
 }
 
 impl<L: ItemCount> NonEmpty<L> {
-    /// The list, which has an item.
+    /// Returns a reference to the list, which has an item.
     pub fn list(&self) -> &L
         ensures list { result.now ≡ self.now }
         ensures some { 0 < L.item_count self.now }
@@ -43,7 +43,7 @@ impl<L: ItemCount> NonEmpty<L> {
         &self.list
     }
 
-    /// The list itself.
+    /// Returns the list itself.
     pub fn into_list(self) -> L
         ensures list { result ≡ self }
         ensures some { 0 < L.item_count result }
@@ -53,10 +53,10 @@ impl<L: ItemCount> NonEmpty<L> {
 }
 
 impl<L: ItemCount + OneTag + Drop> NonEmpty<L> {
-    /// A list that has an item.
+    /// Creates a `NonEmpty` from a list that has an item.
     ///
     /// # Errors
-    /// `ErrorKind::Value` (13) with the list's tag where it has none.
+    /// `ErrorKind::Value` (13) with the list's tag if it has no items.
     pub fn new(list: L) -> Result<NonEmpty<L>, Error>
         ensures ok { IfOk result (λ some. some ≡ list) }
         ensures some { OnOk result (0 < L.item_count list) }

@@ -3,11 +3,11 @@
 //! The tag is 30. The contents octets are the encodings of the items, one after another, so that
 //! the INTEGERs 8 and 7 are encoded as 30 06 02 01 08 02 01 07.
 //!
-//! Reading keeps the octets and how many items they are, and no item. It refuses with the first
-//! fault of an item, from the left, and with `ErrorKind::Memory` (1) where the item takes memory.
-//! The items are read by a reader of the contents octets alone, from position 0 on, under DER. What
-//! was read is compared, and written, as it came; the items are read again by each call that gives
-//! them.
+//! Decoding keeps the octets and the number of items, and no item. It fails with the first error
+//! of an item, from the left, and with `ErrorKind::Memory` (1) if the item takes memory and none
+//! is left. A reader of the contents octets alone reads the items, from position 0 and under DER.
+//! The octets are compared and written as they were read. Each call that gives items reads them
+//! again.
 
 ghost use Rattle.std.specs.Prelude.{◌≡◌, ◌<◌, ◌==◌, ◌^◌, ⊤, length, map, refl, nat_eq, false, IfOk, IfErr};
 ghost use Rattle.std.proofs.Common.{sym};
@@ -33,7 +33,7 @@ use std::cmp::Ordering;
 use std::fmt;
 use std::marker::{Model, PhantomData};
 
-/// The contents octets of items that were read, borrowed: at most 4294967295 of them.
+/// The contents octets of items that were read, borrowed. There are at most 4294967295 of them.
 #[derive(Drop)]
 pub struct SequenceOfRef<'a, T: Form> {
     octets: OctetStringRef<'a>,
@@ -54,28 +54,28 @@ impl<'a, T: Form> Model for SequenceOfRef<'a, T> {
 }
 
 impl<'a, T: Form> SequenceOfRef<'a, T> {
-    /// The contents octets.
+    /// Returns the contents octets.
     pub fn as_bytes(&self) -> &'a [u8]
         ensures { result.now ≡ self.now }
     {
         self.octets.as_bytes()
     }
 
-    /// How many items there are.
+    /// Returns the number of items.
     pub fn len(&self) -> usize
         ensures { result ≡ length (item_encodings T.parse self.now) }
     {
         self.count
     }
 
-    /// Whether it has no items.
+    /// Returns whether there are no items.
     pub fn is_empty(&self) -> bool
         ensures { result ≡ (length (item_encodings T.parse self.now) == 0) }
     {
         self.len() == 0
     }
 
-    /// The items, in order, each of which is read again.
+    /// Returns the items in order, each read again.
     pub fn iter(&self) -> SequenceOfRefIter<'a, T>
         ensures { result ≡ item_encodings T.parse self.now }
     {
@@ -86,20 +86,21 @@ impl<'a, T: Form> SequenceOfRef<'a, T> {
 }
 
 impl<'a, T: Decode<'a, SliceReader<'a>>> SequenceOfRef<'a, T> {
-    /// The item at a place, if there is one, read again after those before it.
+    /// Reads again the item at an index, after the items before it. Returns `None` if there is no
+    /// such item.
     ///
     /// # Errors
-    /// `ErrorKind::Memory` (1) where an item takes memory.
+    /// `ErrorKind::Memory` (1) if an item takes memory and none is left.
     pub fn get(&self, index: usize) -> Option<Result<T, Error>>
         ensures { ReReadsAt T.Form (item_encodings T.parse self.now) index result }
     {
         self.iter().items.at(index)
     }
 
-    /// The items, in a vector.
+    /// Reads the items into a vector.
     ///
     /// # Errors
-    /// `ErrorKind::Memory` (1) where memory runs out.
+    /// `ErrorKind::Memory` (1) if memory runs out.
     pub fn ref_to_owned(&self, alloc: Global) -> Result<Vec<T>, Error>
         ensures readable { IfOk result (λ items. All T.readable items.items) }
         ensures ok { IfOk result (λ items. map T.encoding items.items
@@ -121,7 +122,7 @@ impl<'a, T: Decode<'a, SliceReader<'a>>> SequenceOfRef<'a, T> {
 impl<'a, 'b, T: Form> From<&'b SequenceOfRef<'a, T>> for SequenceOfRef<'a, T> {
     ghost from_gives = { λ s r. r ≡ s.now };
 
-    /// The same sequence, of the same octets.
+    /// Creates the same sequence, of the same octets.
     fn from(sequence: &'b SequenceOfRef<'a, T>) -> SequenceOfRef<'a, T> {
         SequenceOfRef {
             octets: sequence.octets,
@@ -143,7 +144,7 @@ impl<'a, T: Form> Clone for SequenceOfRef<'a, T> {
 }
 
 impl<'a, T: Form> fmt::Debug for SequenceOfRef<'a, T> {
-    /// The contents octets; the items are not read again.
+    /// Writes the contents octets; the items are not read again.
     fn fmt<W: fmt::Write>(&self, f: &mut fmt::Formatter<W>) -> fmt::Result {
         f.debug_struct("SequenceOfRef")
             .field("octets", &self.as_bytes())
@@ -177,7 +178,7 @@ impl<'a, T: Form> FormValue for SequenceOfRef<'a, T> {
     ghost value = { kept_format (λ octets. octets) (items_format T.Form) };
 }
 
-/// Keeps contents octets if items are read from them until nothing is left.
+/// Keeps the contents octets if they are read as items until nothing is left.
 fn keep_items<'a, T: Decode<'a, SliceReader<'a>> + Choice>(
     alloc: Global,
     octets: &'a [u8],
@@ -221,7 +222,7 @@ impl<'a, R: Source<'a>, T: Decode<'a, SliceReader<'a>> + Choice> DecodeValue<'a,
         match keep_items(alloc, octets) {
             Ok(kept) => Ok(kept),
             Err(e) => {
-                // The reader fails; the position is that of the contents octets' own reader.
+                // The reader fails; the position is that of the reader of the contents octets.
                 reader.error(e.kind);
                 Err(e)
             }

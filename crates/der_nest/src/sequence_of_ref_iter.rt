@@ -12,10 +12,10 @@ use std::fmt;
 use std::iter::FusedIterator;
 use std::marker::Model;
 
-/// The items that are still to come, in order, each of which is read again.
+/// The items that are left, in order, each read again.
 ///
-/// Where memory runs out for an item, the refusal (1) is the last that comes, and `len` is then 0.
-/// After the last one, `next` answers `None` for good.
+/// If memory runs out for an item, the error (1) is the last item, and `len` is then 0. After the
+/// last item, `next` always returns `None`.
 #[derive(Drop)]
 pub struct SequenceOfRefIter<'a, T: Form> {
     pub(crate) items: ItemReader<'a, T>,
@@ -49,7 +49,7 @@ impl<'a, T: Decode<'a, SliceReader<'a>>> Iterator for SequenceOfRefIter<'a, T> {
 }
 
 impl<'a, T: Decode<'a, SliceReader<'a>>> ExactSizeIterator for SequenceOfRefIter<'a, T> {
-    /// How many items are still to come, if memory is found for each.
+    /// Returns the number of items that are left, if there is memory for each.
     fn len(&self) -> usize
         ensures items { result ≡ length self.now }
     {
@@ -64,7 +64,7 @@ impl<'a, T: Form> Clone for SequenceOfRefIter<'a, T> {
 
     ghost is_infallible = { λ _. ⊤ };
 
-    /// The same items are still to come from both.
+    /// Copies the iterator: both have the same items left.
     fn clone(&self) -> Result<SequenceOfRefIter<'a, T>, AllocError> {
         Ok(SequenceOfRefIter {
             items: self.items.same(),
@@ -73,7 +73,7 @@ impl<'a, T: Form> Clone for SequenceOfRefIter<'a, T> {
 }
 
 impl<'a, T: Decode<'a, SliceReader<'a>>> fmt::Debug for SequenceOfRefIter<'a, T> {
-    /// How many items are still to come; they are not read again.
+    /// Writes the number of items that are left; they are not read again.
     fn fmt<W: fmt::Write>(&self, f: &mut fmt::Formatter<W>) -> fmt::Result {
         f.debug_struct("SequenceOfRefIter")
             .field("len", &self.len())

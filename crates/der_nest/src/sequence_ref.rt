@@ -1,6 +1,6 @@
-//! The contents octets of a SEQUENCE, borrowed and not looked at (X.690 8.9).
+//! The contents octets of a SEQUENCE, borrowed and not decoded (X.690 8.9).
 //!
-//! The tag is 30. Any octets are taken.
+//! The tag is 30. Any octets are accepted.
 
 ghost use Rattle.std.specs.Prelude.{◌≡◌, ◌^◌, ◌<◌, length, refl, false};
 ghost use Rattle.std.proofs.Common.{Ok};
@@ -16,7 +16,7 @@ use der_elem::{
 use der_tlv::{BackWriter, Error, Header, Length, Reader, Source, Tag, Writer};
 use std::alloc::Global;
 
-/// The contents octets of a SEQUENCE, borrowed: at most 4294967295 of them.
+/// The contents octets of a SEQUENCE, borrowed. There are at most 4294967295 of them.
 ///
 /// The octets FF FF are encoded as 30 02 FF FF. `Ord` is the lexicographic order of the octets.
 #[derive(Clone, Copy, Debug, PartialEq, Eq, PartialOrd, Ord, Hash)]
@@ -28,7 +28,7 @@ pub struct SequenceRef<'a> {
 impl<'a> SequenceRef<'a> {
     ghost use Rattle.der_nest.specs.SequenceRef.{octets_of};
 
-    /// A sequence with these contents octets.
+    /// Creates a sequence with these contents octets.
     ///
     /// # Errors
     /// `ErrorKind::Length` (7) for more than 4294967295 octets.
@@ -41,7 +41,7 @@ impl<'a> SequenceRef<'a> {
         }
     }
 
-    /// The contents octets.
+    /// Returns the contents octets.
     pub fn as_bytes(self) -> &'a [u8]
         ensures { result.now ≡ octets_of self.entry }
     {

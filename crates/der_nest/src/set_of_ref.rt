@@ -3,11 +3,11 @@
 //! The tag is 31. The contents octets are the encodings of the items, one after another, in
 //! non-decreasing order, so that the INTEGERs 8 and 7 are encoded as 31 06 02 01 07 02 01 08.
 //!
-//! Reading keeps the octets alone. It refuses with the first fault of an item, from the left, or with
-//! `ErrorKind::SetOrdering` (11) where an item is smaller than the one before, and
-//! `ErrorKind::Memory` (1) where the item takes memory. The items are read by a reader of the
-//! contents octets alone, from position 0 on, under DER. They are read again by each call that
-//! gives, writes or compares them.
+//! Decoding keeps only the octets. It fails with the first error of an item, from the left, with
+//! `ErrorKind::SetOrdering` (11) if an item is smaller than the one before, and with
+//! `ErrorKind::Memory` (1) if the item takes memory and none is left. A reader of the contents
+//! octets alone reads the items, from position 0 and under DER. Each call that gives, writes or
+//! compares the items reads them again.
 
 ghost use Rattle.std.specs.Prelude.{⊤, ◌≡◌, length, false, ◌==◌, IfOk, IfErr};
 ghost use Rattle.std.proofs.Common.{ap, subst, sym};
@@ -39,14 +39,14 @@ use std::alloc::{AllocError, Global};
 use std::cmp::Ordering;
 use std::marker::Model;
 
-/// Items that stand in order.
+/// Items that are in order.
 #[derive(Drop)]
 pub(crate) struct OrderedItems<'a, T: Form> {
     pub(crate) items: &'a [T],
     ghost in_order: { IsInOrder T.encoding items.now },
 }
 
-/// Where the items are.
+/// The source of the items.
 #[derive(Drop)]
 pub(crate) enum Backing<'a, T: Form> {
     Octets(CheckedOctets<'a, T>),
@@ -75,7 +75,7 @@ impl<'a, T: Form> Model for SetOfRef<'a, T> {
 }
 
 impl<'a, T: Form> SetOfRef<'a, T> {
-    /// How many items there are.
+    /// Returns the number of items.
     pub fn len(&self) -> usize
         ensures { result ≡ length (encodings_of T.encoding self.now) }
     {
@@ -85,7 +85,7 @@ impl<'a, T: Form> SetOfRef<'a, T> {
         }
     }
 
-    /// The items, in order: copies of those of a slice, or items that are read again.
+    /// Returns the items in order: copies of the items of a slice, or items that are read again.
     pub fn iter(&self) -> SetOfRefIter<'a, T>
         ensures items { result ≡ self.now }
         ensures in_order { IsSorted lex (encodings_of T.encoding self.now) }
@@ -100,7 +100,7 @@ impl<'a, T: Form> SetOfRef<'a, T> {
         }
     }
 
-    /// Whether it has no items.
+    /// Returns whether there are no items.
     pub fn is_empty(&self) -> bool
         ensures { result ≡ (length (encodings_of T.encoding self.now) == 0) }
     {
@@ -109,7 +109,7 @@ impl<'a, T: Form> SetOfRef<'a, T> {
 }
 
 impl<'a, T: Form> SetOfRef<'a, T> {
-    /// A set of items that are known to stand in order.
+    /// Creates a set of items that are known to be in order.
     pub(crate) fn of_ordered(items: &'a [T]) -> SetOfRef<'a, T>
         requires { IsInOrder T.encoding items.now }
         ensures { result ≡ OfItems items.now }
@@ -121,10 +121,11 @@ impl<'a, T: Form> SetOfRef<'a, T> {
 }
 
 impl<'a, T: Decode<'a, SliceReader<'a>> + Duplicate> SetOfRef<'a, T> {
-    /// The item at a place, if there is one: a copy of that of a slice, or one that is read again.
+    /// Returns the item at an index: a copy of an item of a slice, or an item that is read again.
+    /// Returns `None` if there is no such item.
     ///
     /// # Errors
-    /// `ErrorKind::Memory` (1) where the copy, or reading, takes memory.
+    /// `ErrorKind::Memory` (1) if the copy, or reading, takes memory and none is left.
     pub fn get(&self, index: usize) -> Option<Result<T, Error>>
         ensures { GivesAt T.Form T.is_copy T.takes_memory_to_copy self.now index result }
     {
@@ -139,10 +140,10 @@ impl<'a, T: Decode<'a, SliceReader<'a>> + Duplicate> SetOfRef<'a, T> {
         }
     }
 
-    /// The items, in a set on the heap.
+    /// Collects the items into a set on the heap.
     ///
     /// # Errors
-    /// `ErrorKind::Memory` (1) where memory runs out.
+    /// `ErrorKind::Memory` (1) if memory runs out.
     pub fn ref_to_owned(&self, alloc: Global) -> Result<SetOfVec<T>, Error>
         ensures ok { IfOk result (AreItemsOf T.Form T.is_copy self.now) }
         ensures refused { IfErr result (λ e. e.kind ≡ Memory) }
@@ -162,7 +163,7 @@ impl<'a, T: Decode<'a, SliceReader<'a>> + Duplicate> SetOfRef<'a, T> {
 impl<'a, 'b, T: Form> From<&'b SetOfRef<'a, T>> for SetOfRef<'a, T> {
     ghost from_gives = { λ s r. r ≡ s.now };
 
-    /// The same set, of the same slice or octets.
+    /// Creates the same set, of the same slice or octets.
     fn from(set: &'b SetOfRef<'a, T>) -> SetOfRef<'a, T> {
         match &set.backing {
             Backing::Octets(octets) => SetOfRef {
@@ -188,10 +189,10 @@ impl<'a, T: DerOrd> TryFrom<&'a [T]> for SetOfRef<'a, T> {
 
     ghost try_from_gives = { λ items r. Borrows T.Form items.now r };
 
-    /// A set of items that stand in order.
+    /// Creates a set of items that are in order.
     ///
     /// # Errors
-    /// `ErrorKind::SetOrdering` (11) where an item is smaller than the one before, or the two have
+    /// `ErrorKind::SetOrdering` (11) if an item is smaller than the one before, or the two have
     /// no comparison.
     fn try_from(items: &'a [T]) -> Result<SetOfRef<'a, T>, Error> {
         'items: for i in 0..items.len() {
@@ -246,7 +247,7 @@ impl<'a, R: Source<'a>, T: Decode<'a, SliceReader<'a>> + DerOrd + Tagged> Decode
                 backing: Backing::Octets(octets),
             }),
             Err(e) => {
-                // The reader fails; the position is that of the contents octets' own reader.
+                // The reader fails; the position is that of the reader of the contents octets.
                 reader.error(e.kind);
                 Err(e)
             }

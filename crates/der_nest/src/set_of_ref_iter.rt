@@ -14,18 +14,18 @@ use std::alloc::AllocError;
 use std::iter::FusedIterator;
 use std::marker::Model;
 
-/// The items that are still to come.
+/// The items that are left.
 #[derive(Drop)]
 pub(crate) enum Rest<'a, T: Form> {
     Octets(ItemReader<'a, T>),
     Items(&'a [T]),
 }
 
-/// The items that are still to come, in order: copies of those of a slice, or items that are read
+/// The items that are left, in order: copies of the items of a slice, or items that are read
 /// again.
 ///
-/// Where memory runs out for an item, the refusal (1) is the last that comes, and `len` is then 0.
-/// After the last one, `next` answers `None` for good.
+/// If memory runs out for an item, the error (1) is the last item, and `len` is then 0. After the
+/// last item, `next` always returns `None`.
 #[derive(Drop)]
 pub struct SetOfRefIter<'a, T: Form> {
     pub(crate) rest: Rest<'a, T>,
@@ -47,7 +47,7 @@ impl<'a, T: Form> Model for SetOfRefIter<'a, T> {
 }
 
 impl<'a, T: Decode<'a, SliceReader<'a>>> SetOfRefIter<'a, T> {
-    /// The next item, lent or read again.
+    /// Returns the next item, lent or read again.
     pub(crate) fn next_found(&mut self) -> Option<Result<Found<'a, T>, Error>>
         ensures { FindsNext T.Form self.old result self.new }
     {
@@ -97,7 +97,7 @@ impl<'a, T: Decode<'a, SliceReader<'a>> + Duplicate> Iterator for SetOfRefIter<'
 }
 
 impl<'a, T: Decode<'a, SliceReader<'a>> + Duplicate> ExactSizeIterator for SetOfRefIter<'a, T> {
-    /// How many items are still to come, if memory is found for each.
+    /// Returns the number of items that are left, if there is memory for each.
     fn len(&self) -> usize
         ensures items { result ≡ length (encodings_of T.encoding self.now) }
     {
@@ -115,7 +115,7 @@ impl<'a, T: Form> Clone for SetOfRefIter<'a, T> {
 
     ghost is_infallible = { λ _. ⊤ };
 
-    /// The same items are still to come from both.
+    /// Copies the iterator: both have the same items left.
     fn clone(&self) -> Result<SetOfRefIter<'a, T>, AllocError> {
         match &self.rest {
             Rest::Octets(items) => Ok(SetOfRefIter {

@@ -1,4 +1,4 @@
--- Laws of INTEGER at any number of contents octets (X.690 8.3).
+-- Laws of INTEGER with any number of contents octets (X.690 8.3).
 use Rattle.std.proofs.Common.{◌≡◌, ℕ, ◌<◌, true, false, List, [], ◌∷◌, length, drop, ℤ, pos, negsuc, Ok, Err, refl, sym, ap, ◌∙◌, arith, inl, inr, nat_le}
 use Rattle.std.proofs.lemmas.Bool.{cases_lt}
 use Rattle.std.proofs.lemmas.Bool.Decides.{nat_tests}
@@ -14,7 +14,7 @@ use Rattle.der_numbers.specs.AnyLength.{integer_or_fault, parse_integer, parse_n
 
 -- ---- reading
 
--- octets with no fault are read as they are
+-- octets with no error are read as they are
 pub integer_or_fault-ok : (octets : List ℕ) → 0 < length octets → is_redundant octets ≡ false → integer_or_fault octets ≡ Ok octets
 integer_or_fault-ok [] some needed = absurd (omega arith)
 integer_or_fault-ok (first ∷ others) some needed = rw needed refl
@@ -25,7 +25,7 @@ parse_of_integer octets c fewest e =
     ap integer_or_fault e
     ∙ integer_or_fault-ok octets (omega (arith, ap length fewest, integer_contents-some (twos_complement octets))) (ap is_redundant fewest ∙ integer_contents-needed (twos_complement octets))
 
--- octets with a fault are no integer's contents octets
+-- octets with an error are not the contents octets of any integer
 pub no_integer : (octets kept : List ℕ) {kind : ErrorKind} → integer_or_fault octets ≡ Err kind → kept ≡ integer_contents (twos_complement kept) → octets ≡ kept → ⊥
 no_integer octets kept fault fewest e = let ok = parse_of_integer kept octets fewest e in absurd (cc)
 
@@ -35,15 +35,15 @@ no_integer octets kept fault fewest e = let ok = parse_of_integer kept octets fe
 pub integer_contents-kept : (octets : List ℕ) → AreOctets octets → 0 < length octets → is_redundant octets ≡ false → octets ≡ integer_contents (twos_complement octets)
 integer_contents-kept octets all some needed = sym (integer_contents_twos_complement octets all some needed)
 
--- the contents octets of an integer are those of the integer that they are the two's complement of
+-- the contents octets of an integer are the contents octets of the integer whose two's complement they are
 pub integer_contents-own : (z : ℤ) (octets : List ℕ) → octets ≡ integer_contents z → octets ≡ integer_contents (twos_complement octets)
 integer_contents-own z octets e = e ∙ ap integer_contents (sym (ap twos_complement e ∙ twos_complement_integer_contents z))
 
--- and so are those of a number that is not negative
+-- the contents octets of a number that is not negative are those of the integer whose two's complement they are
 pub integer_contents-of_natural : (n : ℕ) (octets : List ℕ) → octets ≡ natural_contents n → octets ≡ integer_contents (twos_complement octets)
 integer_contents-of_natural n octets e = integer_contents-own (pos n) octets (e ∙ sym (integer_contents-pos n))
 
--- a redundant first octet is followed by another, and is not needed for the integer
+-- a redundant first octet is followed by another, and the integer does not need it
 pub twos_complement-redundant : (octets : List ℕ) → AreOctets octets → is_redundant octets ≡ true → (1 < length octets) × (twos_complement octets ≡ twos_complement (drop 1 octets))
 twos_complement-redundant [] all redundant = absurd (cc)
 twos_complement-redundant (first ∷ []) all redundant = absurd (cc)
@@ -63,7 +63,7 @@ twos_complement-redundant (first ∷ second ∷ others) all redundant = (
   ],
 )
 
--- the faults are of the octets
+-- the errors are errors of the octets
 pub integer_of_octets : (rules : EncodingRules) (p : ℕ) (octets : List ℕ) → IsOfOctets (parse_integer rules p octets)
 integer_of_octets rules p [] = refl
 integer_of_octets rules p (first ∷ others) = of_octets_either (is_redundant (first ∷ others)) (Err (kinds.Noncanonical Integer)) (Ok (first ∷ others)) refl tt

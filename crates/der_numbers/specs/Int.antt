@@ -1,4 +1,4 @@
--- What an Int shows.
+-- The value of an Int that a caller sees.
 use Rattle.std.specs.Prelude.{ℕ, List}
 use Rattle.der_numbers.specs.declared.int.Int.{Int}
 

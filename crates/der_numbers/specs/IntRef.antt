@@ -1,4 +1,4 @@
--- What an IntRef shows, and what octets are read as one.
+-- The value of an IntRef that a caller sees, and the octets that are read as one.
 use Rattle.std.specs.Prelude.{ℕ, List, Result}
 use Rattle.der_tlv.specs.declared.error.Error.{Error}
 use Rattle.der_tlv.specs.declared.tag.Tag.{Tag}
@@ -11,6 +11,6 @@ use Rattle.der_numbers.specs.AnyLength.{parse_integer}
 abbrev pub contents_of : IntRef → List ℕ
 contents_of number = number.octets.now
 
--- what decoding contents octets after a tag as an INTEGER answers
+-- the result of decoding contents octets after a tag as an INTEGER
 abbrev pub DecodesInteger : Tag → List ℕ → Result IntRef Error → Type 0
 DecodesInteger = DecodesOwnAs tags.Integer contents_of (λ number. Unit {0}) parse_integer

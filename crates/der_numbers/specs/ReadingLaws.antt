@@ -1,4 +1,4 @@
--- Which octets are read as an INTEGER of any length (X.690 8.3).
+-- The octets that are read as an INTEGER of any length (X.690 8.3).
 use Rattle.std.proofs.Common.{◌≡◌, ℕ, ◌<◌, ◌↔◌, Bool, true, false, if◌then◌else◌, nat_le, List, [], ◌∷◌, ℤ, Result, Ok, Err, refl, sym, ap, ◌∙◌, arith}
 use Rattle.std.proofs.lemmas.Bool.Decides.{nat_tests}
 use Rattle.der_tlv.specs.declared.error.ErrorKind.{ErrorKind}
@@ -9,15 +9,15 @@ use Rattle.der_numbers.specs.AnyLength.{integer_or_fault, natural_or_fault}
 use Rattle.der_numbers.specs.AnyLengthLaws.{integer_or_fault-ok, integer_contents-kept}
 use Rattle.der_numbers.specs.UnsignedLaws.{natural_or_fault-contents, natural_contents-read}
 
--- octets are read exactly where they are the contents octets of an integer
+-- octets are read exactly if they are the contents octets of an integer
 abbrev pub IntegersAreRead : Type 0
 IntegersAreRead = (c : List ℕ) → AreOctets c → ((integer_or_fault c ≡ Ok c) ↔ ((z : ℤ) × (c ≡ integer_contents z)))
 
--- the same of numbers that are not negative
+-- octets are read exactly if they are the contents octets of a number that is not negative
 abbrev pub NaturalsAreRead : Type 0
 NaturalsAreRead = (c : List ℕ) → AreOctets c → ((natural_or_fault c ≡ Ok c) ↔ ((n : ℕ) × (c ≡ natural_contents n)))
 
--- what is not refused has no fault
+-- if the octets are accepted, the test for an error is false
 no_fault : {A : Type 0} (fault : Bool) (kind : ErrorKind) (rest : Result A ErrorKind) (v : A) → (if fault then Err kind else rest) ≡ Ok v → (fault ≡ false) × (rest ≡ Ok v)
 no_fault true kind rest v e = absurd (cc)
 no_fault false kind rest v e = (refl, e)

@@ -1,4 +1,4 @@
--- Laws of INTEGER at any number of contents octets, of numbers that are not negative (X.690 8.3).
+-- Laws of INTEGER with any number of contents octets, for numbers that are not negative (X.690 8.3).
 use Rattle.std.proofs.Common.{◌≡◌, ℕ, zero, suc, ◌<◌, ◌≤◌, true, false, cond, nat_le, nat_eq, List, [], ◌∷◌, length, slice_index, drop, Ok, Err, refl, sym, ap, ap₂, ◌∙◌, arith, inl, inr, lt-ltb, le-ltb}
 use Rattle.std.proofs.lemmas.Bool.{cases_lt}
 use Rattle.std.proofs.lemmas.Bool.Decides.{nat_tests}
@@ -10,17 +10,17 @@ use Rattle.der_elem.specs.IntegerReading.{has_needless_zero}
 use Rattle.der_elem.specs.IntegerReadingLaws.{needless_zero-needed}
 use Rattle.der_numbers.specs.AnyLength.{natural_or_fault, has_leading_zero, without_sign_octet}
 
--- ---- the leading octet that says the sign
+-- ---- the leading octet for the sign
 
--- none where bit 8 of the first is zero
+-- no octet if bit 8 of the first is zero
 pub with_sign_octet-small : (first : ℕ) (others : List ℕ) → first < 128 → with_sign_octet (first ∷ others) ≡ first ∷ others
 with_sign_octet-small first others small = ap (λ t. cond t (first ∷ others) (0 ∷ first ∷ others)) (lt-ltb first 128 small)
 
--- a 00 where it is set
+-- a 00 if it is set
 pub with_sign_octet-large : (first : ℕ) (others : List ℕ) → 128 ≤ first → with_sign_octet (first ∷ others) ≡ 0 ∷ first ∷ others
 with_sign_octet-large first others large = ap (λ t. cond t (first ∷ others) (0 ∷ first ∷ others)) (le-ltb first 128 large)
 
--- the same, of octets as a whole
+-- no octet, for the octets as a whole
 pub with_sign_octet-none : (octets : List ℕ) → 0 < length octets → slice_index octets 0 < 128 → with_sign_octet octets ≡ octets
 with_sign_octet-none [] some small = absurd (omega arith)
 with_sign_octet-none (first ∷ others) some small = with_sign_octet-small first others small
@@ -29,7 +29,7 @@ pub with_sign_octet-needed : (octets : List ℕ) → 0 < length octets → 128 �
 with_sign_octet-needed [] some large = absurd (omega arith)
 with_sign_octet-needed (first ∷ others) some large = with_sign_octet-large first others large
 
--- it adds an octet or none
+-- it adds one octet or none
 pub sign_octet_length : (octets : List ℕ) → length octets ≤ length (with_sign_octet octets)
 sign_octet_length [] = omega arith
 sign_octet_length (first ∷ others) = elim (cases_lt first 128) [
@@ -39,18 +39,18 @@ sign_octet_length (first ∷ others) = elim (cases_lt first 128) [
 
 -- ---- reading
 
--- octets that begin with one below 128 and have no needless 00 are not redundant
+-- octets whose first is below 128 and that have no needless 00 are not redundant
 needed : (octets : List ℕ) → slice_index octets 0 < 128 → has_needless_zero octets ≡ false → is_redundant octets ≡ false
 needed [] small least = refl
 needed (first ∷ []) small least = refl
 needed (first ∷ second ∷ others) small least = grind (arith, nat_tests)
 
--- octets with no fault are read as they are
+-- octets with no error are read as they are
 pub natural_or_fault-ok : (octets : List ℕ) → 0 < length octets → slice_index octets 0 < 128 → has_needless_zero octets ≡ false → natural_or_fault octets ≡ Ok octets
 natural_or_fault-ok [] some small least = absurd (omega arith)
 natural_or_fault-ok (first ∷ others) some small least = let t : nat_le 128 first ≡ false = grind (arith, nat_tests) in rw (least, t) refl
 
--- and they are the contents octets of their number
+-- octets with no error are the contents octets of their number
 pub natural_contents-read : (octets : List ℕ) → AreOctets octets → 0 < length octets → slice_index octets 0 < 128 → has_needless_zero octets ≡ false → octets ≡ natural_contents (big_endian_number octets)
 natural_contents-read octets all some small least = sym (natural_contents-of_octets octets all some small (needed octets small least))
 
@@ -63,7 +63,7 @@ pub parse_of_natural : (kept c : List ℕ) → with_sign_octet kept ≡ natural_
 parse_of_natural kept c fewest e =
     ap natural_or_fault (e ∙ fewest) ∙ natural_or_fault-contents (big_endian_number kept) ∙ ap Ok (sym fewest)
 
--- octets with a fault are no number's contents octets
+-- octets with an error are not the contents octets of any number
 pub no_natural : (octets kept : List ℕ) {kind : ErrorKind} → natural_or_fault octets ≡ Err kind → with_sign_octet kept ≡ natural_contents (big_endian_number kept) → octets ≡ with_sign_octet kept → ⊥
 no_natural octets kept fault fewest e = let ok = parse_of_natural kept octets fewest e in absurd (cc)
 
@@ -77,14 +77,14 @@ number-leading_zero (first ∷ second ∷ others) all leads =
     let z : first ≡ 0 = grind (arith, nat_tests) in
     (omega arith, ap (λ f. big_endian_number (f ∷ second ∷ others)) z)
 
--- octets without leading zeros are the contents octets of their number, with the sign octet where it is needed
+-- octets without leading zeros are the contents octets of their number, with the sign octet if it is needed
 pub natural_contents-kept : (octets : List ℕ) → AreOctets octets → 0 < length octets → has_leading_zero octets ≡ false → with_sign_octet octets ≡ natural_contents (big_endian_number octets)
 natural_contents-kept [] all some stripped = absurd (omega arith)
 natural_contents-kept (zero ∷ []) all some stripped = sym (natural_contents-small 0 (omega arith))
 natural_contents-kept (zero ∷ second ∷ others) all some stripped = absurd (cc)
 natural_contents-kept (suc first ∷ others) all some stripped = sym (natural_contents-with_sign_octet (suc first ∷ others) all (λ h. omega arith))
 
--- without the sign octet, the octets are back
+-- removing the sign octet gives the octets again
 pub without_sign_octet_kept : (octets : List ℕ) → 0 < length octets → has_leading_zero octets ≡ false → without_sign_octet (with_sign_octet octets) ≡ octets
 without_sign_octet_kept [] some stripped = absurd (omega arith)
 without_sign_octet_kept (first ∷ others) some stripped = elim (cases_lt first 128) [
@@ -98,7 +98,7 @@ without_sign_octet_kept (first ∷ others) some stripped = elim (cases_lt first 
 
 -- ---- equality of contents octets
 
--- contents octets are the same exactly where they are without the sign octet
+-- contents octets are equal exactly if they are equal without the sign octet
 pub pointwise_contents : (a b : List ℕ) → 0 < length a → 0 < length b → has_leading_zero a ≡ false → has_leading_zero b ≡ false → pointwise nat_eq a b ≡ pointwise nat_eq (with_sign_octet a) (with_sign_octet b)
 pointwise_contents [] b some_a some_b stripped_a stripped_b = absurd (omega arith)
 pointwise_contents (first ∷ others) [] some_a some_b stripped_a stripped_b = absurd (omega arith)

@@ -1,12 +1,12 @@
-//! Numbers that have names: ENUMERATED (X.690 8.4, X.680 20), and INTEGER of which only the named
-//! numbers are values (X.690 8.3, X.680 19.5).
+//! Named numbers: ENUMERATED (X.690 8.4, X.680 20), and INTEGER whose only values are the named
+//! numbers (X.690 8.3, X.680 19.5).
 //!
-//! The contents octets are those of the INTEGER with the number: keyCompromise (1) of a CRLReason is
-//! encoded as 0A 01 01.
+//! The contents octets are those of the INTEGER with the number: keyCompromise (1) of a CRLReason
+//! is encoded as 0A 01 01.
 //!
-//! Reading refuses, in this order: no contents octets (7); more than eight (8); a first octet 00
-//! before one below 80, or FF before one of 80 or more (`ErrorKind::Noncanonical`, 8); a number that
-//! has no name (`ErrorKind::Value`, 13).
+//! Decoding fails, in this order: on no contents octets (7); on more than eight (8); on a first
+//! octet 00 before one below 80, or FF before one of 80 or more (`ErrorKind::Noncanonical`, 8);
+//! on a number that has no name (`ErrorKind::Value`, 13).
 
 ghost use Rattle.std.specs.Prelude.{◌≡◌, false, refl};
 ghost use Rattle.std.proofs.Common.{lit<};
@@ -41,42 +41,43 @@ impl TagMarker for EnumeratedTag {
     ghost tag_in_range = { lit< tt };
 }
 
-/// A type of a user's own, mostly an `enum`, whose values are the names of numbers.
+/// A user's own type, mostly an `enum`, whose values are names of numbers.
 ///
-/// `names` says the number of each, and lists them. Each is found in the list by its number: so no
-/// two have one number (X.680 20.2).
+/// `names` lists the values and their numbers. Each value is found in the list by its number, so
+/// no two values have the same number (X.680 20.2).
 pub trait Enumeration: Copy {
-    /// The tag: [`EnumeratedTag`], or `IntegerTag` for an INTEGER of which only the named numbers
-    /// are values.
+    /// The tag: [`EnumeratedTag`], or `IntegerTag` for an INTEGER whose only values are the named
+    /// numbers.
     type Marker: TagMarker;
 
     // the numbers of its values
     ghost names: { Names Self };
 
-    /// The number of the value.
+    /// Returns the number of the value.
     fn number(self) -> i64
         ensures { result ≡ names.number_of self };
 
-    /// The value with this number, if it has a name.
+    /// Returns the value with this number, if it has a name.
     fn of_number(number: i64) -> Option<Self>
         ensures { result ≡ named names.number_of names.values number };
 }
 
-/// A value of an enumeration, which is written as the INTEGER with its number, after the
+/// A value of an enumeration. It is encoded as the INTEGER with its number, after the
 /// enumeration's tag.
 ///
 /// keyCompromise (1) of a CRLReason is encoded as 0A 01 01.
 ///
 /// # Errors
-/// Reading refuses no contents octets (`ErrorKind::Length`, 7), more than eight or a redundant first
-/// octet (`ErrorKind::Noncanonical`, 8), and a number without a name (`ErrorKind::Value`, 13).
+/// Decoding fails on no contents octets (`ErrorKind::Length`, 7), on more than eight or a
+/// redundant first octet (`ErrorKind::Noncanonical`, 8), and on a number without a name
+/// (`ErrorKind::Value`, 13).
 #[derive(Clone, Copy, Debug)]
 pub struct Enumerated<E> {
     /// The value.
     pub value: E,
 }
 
-/// The integer that at most eight contents octets represent.
+/// Decodes at most eight contents octets as an integer.
 ///
 /// # Errors
 /// In this order: no octets (`ErrorKind::Length`, 7); more than eight
@@ -90,7 +91,7 @@ fn integer_of(octets: &[u8]) -> Result<i64, ErrorKind>
     }
 }
 
-/// The value whose number these contents octets represent.
+/// Decodes contents octets as the value with their number.
 ///
 /// # Errors
 /// In this order: no octets (`ErrorKind::Length`, 7); more than eight
@@ -165,7 +166,7 @@ impl<E: Enumeration> PartialEq for Enumerated<E> {
 
     ghost laws = { on_per (λ v. E.names.number_of v.value) (partial_equiv_from_equiv int_eq_equiv) };
 
-    /// Whether the two have one number.
+    /// Returns whether the two values have the same number.
     fn eq(&self, other: &Enumerated<E>) -> bool {
         self.value.number() == other.value.number()
     }

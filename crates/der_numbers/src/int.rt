@@ -1,7 +1,8 @@
 //! INTEGER of any length (X.690 8.3).
 //!
-//! The tag is 02. The contents octets are the two's complement of the integer in the fewest octets,
-//! the highest first, of which bit 8 of the first is the sign: 127 is 7F, 128 is 00 80, -128 is 80.
+//! The tag is 02. The contents octets are the two's complement of the integer in the fewest
+//! octets, highest octet first. Bit 8 of the first octet is the sign: 127 is 7F, 128 is 00 80,
+//! -128 is 80.
 
 ghost use Rattle.std.specs.Prelude.{◌≡◌, ◌^◌, ◌<◌, length, true, false, refl};
 ghost use Rattle.std.proofs.Common.{Ok, sym};
@@ -24,13 +25,13 @@ use der_elem::{
 use der_tlv::{BackWriter, Error, Header, Length, Reader, Source, Tag, VecWriter, Writer};
 use std::alloc::{AllocError, Global};
 
-/// An integer of any length: at most 4294967295 contents octets.
+/// An integer of any length, with at most 4294967295 contents octets.
 ///
 /// The integer 128 is kept as 00 80, and encoded as 02 02 00 80.
 ///
 /// # Errors
-/// Reading refuses no contents octets and a redundant first octet (`ErrorKind::Noncanonical`, 8):
-/// 00 before an octet below 80, or FF before one of 80 or more.
+/// Decoding fails on no contents octets and on a redundant first octet
+/// (`ErrorKind::Noncanonical`, 8): 00 before an octet below 80, or FF before one of 80 or more.
 #[derive(Debug, Drop, PartialEq, Eq, PartialOrd, Ord)]
 pub struct Int {
     pub(crate) octets: Vec<u8>,
@@ -42,11 +43,11 @@ pub struct Int {
 impl Int {
     ghost use Rattle.der_numbers.specs.Int.{contents_of};
 
-    /// The integer that the octets are the two's complement of, in the fewest octets.
+    /// Creates the integer whose two's complement is `octets`, and keeps the fewest octets.
     ///
     /// # Errors
-    /// `ErrorKind::Length` (7) for no octets, and where the fewest are more than 4294967295; else
-    /// `ErrorKind::Memory` (1) where memory runs out.
+    /// `ErrorKind::Length` (7) for no octets, or if the fewest are more than 4294967295; else
+    /// `ErrorKind::Memory` (1) if memory runs out.
     pub fn new(alloc: Global, octets: &[u8]) -> Result<Int, Error>
         ensures { KeepsCopy contents_of octets.now
             (integer_contents (twos_complement octets.now)) result }
@@ -57,12 +58,12 @@ impl Int {
         }
     }
 
-    /// The same number.
+    /// Creates the integer with the same value as a `Uint`.
     ///
     /// # Errors
-    /// `ErrorKind::Length` (7) where there are more than 4294967295 contents octets, as of a number
-    /// of 4294967295 octets of which the first is 80 or more; else `ErrorKind::Memory` (1) where
-    /// memory runs out.
+    /// `ErrorKind::Length` (7) if there are more than 4294967295 contents octets, for example for
+    /// a number of 4294967295 octets whose first octet is 80 or more; else `ErrorKind::Memory`
+    /// (1) if memory runs out.
     pub fn from_uint(alloc: Global, number: Uint) -> Result<Int, Error>
         ensures { CopiesWithinLength contents_of (unsigned.contents_of number) result }
     {
@@ -82,7 +83,7 @@ impl Int {
         })
     }
 
-    /// The contents octets: the two's complement in the fewest octets.
+    /// Returns the contents octets: the two's complement in the fewest octets.
     pub fn as_bytes(&self) -> &[u8]
         ensures contents { result.now ≡ contents_of self.now }
         ensures fewest { result.now ≡ integer_contents (twos_complement result.now) }
@@ -90,21 +91,21 @@ impl Int {
         self.owned_to_ref().as_bytes()
     }
 
-    /// How many contents octets there are.
+    /// Returns the number of contents octets.
     pub fn len(&self) -> Length
         ensures { result ≡ length (contents_of self.now) }
     {
         self.owned_to_ref().len()
     }
 
-    /// Whether there are no octets: never, since each integer has some.
+    /// Returns `false`: each integer has contents octets.
     pub fn is_empty(&self) -> bool
         ensures { result ≡ false }
     {
         self.octets.is_empty()
     }
 
-    /// The integer, borrowed.
+    /// Borrows the integer.
     pub fn owned_to_ref(&self) -> IntRef<'_>
         ensures { borrowed.contents_of result ≡ contents_of self.now }
     {
@@ -147,7 +148,7 @@ impl<'a, R: Source<'a>> DecodeValue<'a, R> for Int {
     const TAKES_MEMORY: bool = true;
 
     /// # Errors
-    /// (17) on a failed reader; the first fault of the contents octets; else (1) where memory runs
+    /// (17) on a failed reader; the first error of the contents octets; else (1) if memory runs
     /// out.
     fn decode_value(alloc: Global, reader: &mut R, header: Header) -> Result<Int, Error> {
         match IntRef::decode_value(alloc, reader, header) {

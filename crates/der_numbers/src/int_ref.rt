@@ -1,7 +1,8 @@
 //! Borrowed INTEGER of any length (X.690 8.3).
 //!
-//! The tag is 02. The contents octets are the two's complement of the integer in the fewest octets,
-//! the highest first, of which bit 8 of the first is the sign: 127 is 7F, 128 is 00 80, -128 is 80.
+//! The tag is 02. The contents octets are the two's complement of the integer in the fewest
+//! octets, highest octet first. Bit 8 of the first octet is the sign: 127 is 7F, 128 is 00 80,
+//! -128 is 80.
 
 ghost use Rattle.std.specs.Prelude.{◌≡◌, ◌^◌, ◌<◌, length, false, refl};
 ghost use Rattle.std.proofs.Common.{Ok};
@@ -24,13 +25,13 @@ use der_opaque::{Any, AnyRef};
 use der_tlv::{BackWriter, Error, ErrorKind, Header, Length, Reader, Source, Tag, Writer};
 use std::alloc::Global;
 
-/// An integer of any length, borrowed: at most 4294967295 contents octets.
+/// An integer of any length, borrowed, with at most 4294967295 contents octets.
 ///
 /// The integer 128 is kept as 00 80, and encoded as 02 02 00 80.
 ///
 /// # Errors
-/// Reading refuses no contents octets and a redundant first octet (`ErrorKind::Noncanonical`, 8):
-/// 00 before an octet below 80, or FF before one of 80 or more.
+/// Decoding fails on no contents octets and on a redundant first octet
+/// (`ErrorKind::Noncanonical`, 8): 00 before an octet below 80, or FF before one of 80 or more.
 #[derive(Clone, Copy, Debug, PartialEq, Eq, PartialOrd, Ord)]
 pub struct IntRef<'a> {
     pub(crate) octets: &'a [u8],
@@ -43,10 +44,10 @@ impl<'a> IntRef<'a> {
     ghost use Rattle.der_numbers.specs.Int as owned;
     ghost use Rattle.der_numbers.specs.IntRef.{contents_of};
 
-    /// The integer that the octets are the two's complement of, in the fewest octets.
+    /// Creates the integer whose two's complement is `octets`, and keeps the fewest octets.
     ///
     /// # Errors
-    /// `ErrorKind::Length` (7) for no octets, and where the fewest are more than 4294967295.
+    /// `ErrorKind::Length` (7) for no octets, or if the fewest are more than 4294967295.
     pub fn new(octets: &'a [u8]) -> Result<IntRef<'a>, Error>
         ensures { KeepsNumber contents_of octets.now
             (integer_contents (twos_complement octets.now)) result }
@@ -61,10 +62,10 @@ impl<'a> IntRef<'a> {
         }
     }
 
-    /// The integer that has these contents octets.
+    /// Creates the integer that has these contents octets.
     ///
     /// # Errors
-    /// None, or a redundant first octet (`ErrorKind::Noncanonical`, 8).
+    /// `ErrorKind::Noncanonical` (8) for no octets, or a redundant first octet.
     fn from_contents(octets: &'a [u8]) -> Result<IntRef<'a>, ErrorKind>
         requires { length octets.now < 2 ^ 32 }
         ensures { TakesContents contents_of integer_or_fault octets.now result }
@@ -75,7 +76,7 @@ impl<'a> IntRef<'a> {
         }
     }
 
-    /// The contents octets: the two's complement in the fewest octets.
+    /// Returns the contents octets: the two's complement in the fewest octets.
     pub fn as_bytes(self) -> &'a [u8]
         ensures contents { result.now ≡ contents_of self.entry }
         ensures fewest { result.now ≡ integer_contents (twos_complement result.now) }
@@ -83,24 +84,24 @@ impl<'a> IntRef<'a> {
         self.octets
     }
 
-    /// How many contents octets there are.
+    /// Returns the number of contents octets.
     pub fn len(self) -> Length
         ensures { result ≡ length (contents_of self.entry) }
     {
         Length::new(self.octets.len() as u32)
     }
 
-    /// Whether there are no octets: never, since each integer has some.
+    /// Returns `false`: each integer has contents octets.
     pub fn is_empty(self) -> bool
         ensures { result ≡ false }
     {
         self.octets.is_empty()
     }
 
-    /// The integer, copied.
+    /// Copies the integer.
     ///
     /// # Errors
-    /// `ErrorKind::Memory` (1) where memory runs out.
+    /// `ErrorKind::Memory` (1) if memory runs out.
     pub fn ref_to_owned(self, alloc: Global) -> Result<Int, Error>
         ensures { CopiesContents owned.contents_of (contents_of self.entry) result }
     {
@@ -160,11 +161,11 @@ impl<'a> ContentsEq for IntRef<'a> {
 
 impl<'a> CopyIsDuplicate for IntRef<'a> {}
 
-/// A value that can be seen as a borrowed integer.
+/// A value that can be borrowed as an integer.
 pub trait AsIntRef: FormValue {
     ghost use Rattle.der_numbers.specs.IntRef.{contents_of};
 
-    /// The same integer, borrowed.
+    /// Borrows the integer.
     fn as_int_ref(&self) -> IntRef<'_>
         ensures { contents_of result ≡ Self.value.contents self.now };
 }
@@ -194,7 +195,8 @@ impl<'a> TryFrom<AnyRef<'a>> for IntRef<'a> {
         (borrowed_any.contents_of a) r };
 
     /// # Errors
-    /// (4) with no expected tag for another tag; no contents octets, or a redundant first octet (8).
+    /// (4) with no expected tag for another tag; (8) for no contents octets, or a redundant first
+    /// octet.
     fn try_from(any: AnyRef<'a>) -> Result<IntRef<'a>, Error> {
         if !any.tag().equals(Tag::Integer) {
             return Err(Error::from_kind(any.tag().unexpected_error(None)));
@@ -215,7 +217,8 @@ impl<'a> TryFrom<&'a Any> for IntRef<'a> {
         (owned_any.contents_of a.now) r };
 
     /// # Errors
-    /// (4) with no expected tag for another tag; no contents octets, or a redundant first octet (8).
+    /// (4) with no expected tag for another tag; (8) for no contents octets, or a redundant first
+    /// octet.
     fn try_from(any: &'a Any) -> Result<IntRef<'a>, Error> {
         IntRef::try_from(any.to_ref())
     }

@@ -1,4 +1,4 @@
-//! Laws of INTEGER of any length: functions that do nothing, and promise what holds of all of them.
+//! Laws of INTEGER of any length: functions that do nothing and state what holds for all of them.
 
 ghost use Rattle.std.specs.Prelude.{◌≡◌, ◌∷◌, []};
 ghost use Rattle.der_tlv.specs.declared.tag.Tag.TheVariants as tags;
@@ -11,18 +11,18 @@ use crate::uint_ref::UintRef;
 use der_elem::FixedTag;
 use der_tlv::Tag;
 
-/// Octets are read as an integer exactly where they are the contents octets of one.
+/// Octets are read as an integer exactly if they are the contents octets of one.
 pub fn integers_are_read()
     ensures { IntegersAreRead }
 {}
 
-/// Octets are read as a number that is not negative exactly where they are the contents octets of
+/// Octets are read as a number that is not negative exactly if they are the contents octets of
 /// one.
 pub fn naturals_are_read()
     ensures { NaturalsAreRead }
 {}
 
-/// The tags of the types (X.680 8.6): of `Int`, `IntRef`, `Uint` and `UintRef`.
+/// Returns the tags of the types (X.680 8.6): of `Int`, `IntRef`, `Uint` and `UintRef`.
 pub fn universal_tags() -> [Tag; 4]
     ensures { result ≡ tags.Integer ∷ tags.Integer ∷ tags.Integer ∷ tags.Integer ∷ [] }
 {

@@ -13,10 +13,10 @@ use der_elem::{EncodeValue, FormValue};
 use der_tlv::{Error, ErrorKind, SliceWriter};
 use std::alloc::Global;
 
-// The most contents octets that an integer of 128 bits has: 16, and a 00 before them.
+// The maximum number of contents octets of an integer of 128 bits: 16, and a 00 before them.
 const MAX_OCTETS: usize = 17;
 
-/// The contents octets of a value that has at most 17, in a buffer.
+/// Writes the contents octets of a value, which are at most 17, into a buffer.
 fn contents_in<'b, T: EncodeValue>(value: &T, buffer: &'b mut [u8; MAX_OCTETS]) -> &'b [u8]
     requires short { length (T.value.contents value.now) ≤ 17 }
     requires kept { T.value.re_reads value.now ≡ false }
@@ -52,50 +52,50 @@ fn uint_from(alloc: Global, number: u128) -> Result<Uint, Error>
 }
 
 impl Int {
-    /// An `Int` with the value `number`.
+    /// Creates an `Int` with the value `number`.
     ///
     /// # Errors
-    /// `ErrorKind::Memory` (1) where memory runs out.
+    /// `ErrorKind::Memory` (1) if memory runs out.
     pub fn try_from_i8(alloc: Global, number: i8) -> Result<Int, Error>
         ensures { CopiesContents signed.contents_of (integer_contents number) result }
     {
         int_from(alloc, i128::from(number))
     }
 
-    /// An `Int` with the value `number`.
+    /// Creates an `Int` with the value `number`.
     ///
     /// # Errors
-    /// `ErrorKind::Memory` (1) where memory runs out.
+    /// `ErrorKind::Memory` (1) if memory runs out.
     pub fn try_from_i16(alloc: Global, number: i16) -> Result<Int, Error>
         ensures { CopiesContents signed.contents_of (integer_contents number) result }
     {
         int_from(alloc, i128::from(number))
     }
 
-    /// An `Int` with the value `number`.
+    /// Creates an `Int` with the value `number`.
     ///
     /// # Errors
-    /// `ErrorKind::Memory` (1) where memory runs out.
+    /// `ErrorKind::Memory` (1) if memory runs out.
     pub fn try_from_i32(alloc: Global, number: i32) -> Result<Int, Error>
         ensures { CopiesContents signed.contents_of (integer_contents number) result }
     {
         int_from(alloc, i128::from(number))
     }
 
-    /// An `Int` with the value `number`.
+    /// Creates an `Int` with the value `number`.
     ///
     /// # Errors
-    /// `ErrorKind::Memory` (1) where memory runs out.
+    /// `ErrorKind::Memory` (1) if memory runs out.
     pub fn try_from_i64(alloc: Global, number: i64) -> Result<Int, Error>
         ensures { CopiesContents signed.contents_of (integer_contents number) result }
     {
         int_from(alloc, i128::from(number))
     }
 
-    /// An `Int` with the value `number`.
+    /// Creates an `Int` with the value `number`.
     ///
     /// # Errors
-    /// `ErrorKind::Memory` (1) where memory runs out.
+    /// `ErrorKind::Memory` (1) if memory runs out.
     pub fn try_from_i128(alloc: Global, number: i128) -> Result<Int, Error>
         ensures { CopiesContents signed.contents_of (integer_contents number) result }
     {
@@ -104,50 +104,50 @@ impl Int {
 }
 
 impl Uint {
-    /// A `Uint` with the value `number`.
+    /// Creates a `Uint` with the value `number`.
     ///
     /// # Errors
-    /// `ErrorKind::Memory` (1) where memory runs out.
+    /// `ErrorKind::Memory` (1) if memory runs out.
     pub fn try_from_u8(alloc: Global, number: u8) -> Result<Uint, Error>
         ensures { CopiesContents unsigned.contents_of (natural_contents number) result }
     {
         uint_from(alloc, u128::from(number))
     }
 
-    /// A `Uint` with the value `number`.
+    /// Creates a `Uint` with the value `number`.
     ///
     /// # Errors
-    /// `ErrorKind::Memory` (1) where memory runs out.
+    /// `ErrorKind::Memory` (1) if memory runs out.
     pub fn try_from_u16(alloc: Global, number: u16) -> Result<Uint, Error>
         ensures { CopiesContents unsigned.contents_of (natural_contents number) result }
     {
         uint_from(alloc, u128::from(number))
     }
 
-    /// A `Uint` with the value `number`.
+    /// Creates a `Uint` with the value `number`.
     ///
     /// # Errors
-    /// `ErrorKind::Memory` (1) where memory runs out.
+    /// `ErrorKind::Memory` (1) if memory runs out.
     pub fn try_from_u32(alloc: Global, number: u32) -> Result<Uint, Error>
         ensures { CopiesContents unsigned.contents_of (natural_contents number) result }
     {
         uint_from(alloc, u128::from(number))
     }
 
-    /// A `Uint` with the value `number`.
+    /// Creates a `Uint` with the value `number`.
     ///
     /// # Errors
-    /// `ErrorKind::Memory` (1) where memory runs out.
+    /// `ErrorKind::Memory` (1) if memory runs out.
     pub fn try_from_u64(alloc: Global, number: u64) -> Result<Uint, Error>
         ensures { CopiesContents unsigned.contents_of (natural_contents number) result }
     {
         uint_from(alloc, u128::from(number))
     }
 
-    /// A `Uint` with the value `number`.
+    /// Creates a `Uint` with the value `number`.
     ///
     /// # Errors
-    /// `ErrorKind::Memory` (1) where memory runs out.
+    /// `ErrorKind::Memory` (1) if memory runs out.
     pub fn try_from_u128(alloc: Global, number: u128) -> Result<Uint, Error>
         ensures { CopiesContents unsigned.contents_of (natural_contents number) result }
     {

@@ -11,7 +11,8 @@ ghost use Rattle.der_numbers.specs.AnyLength.{integer_or_fault, natural_or_fault
 use der_tlv::{Error, ErrorKind, Length, Tag, Writer};
 use std::cmp::Ordering;
 
-/// Whether the first nine bits are the same, so that the first octet says nothing (X.690 8.3.2).
+/// Returns whether the first nine bits are the same, so that the first octet is redundant (X.690
+/// 8.3.2).
 fn is_redundant(octets: &[u8]) -> bool
     ensures { result ≡ is_redundant octets.now }
 {
@@ -22,7 +23,7 @@ fn is_redundant(octets: &[u8]) -> bool
     }
 }
 
-/// The fewest octets of the same integer, without the redundant ones before them.
+/// Returns the fewest octets of the same integer, without the redundant ones before them.
 pub fn strip_redundant(octets: &[u8]) -> &[u8]
     requires { 0 < length octets.now }
     ensures contents { result.now ≡ integer_contents (twos_complement octets.now) }
@@ -36,10 +37,10 @@ pub fn strip_redundant(octets: &[u8]) -> &[u8]
     &octets[start..]
 }
 
-/// Whether the octets are contents octets of an integer.
+/// Checks that the octets are contents octets of an integer.
 ///
 /// # Errors
-/// None, or a redundant first octet (`ErrorKind::Noncanonical`, 8).
+/// `ErrorKind::Noncanonical` (8) for no octets, or a redundant first octet.
 pub fn check_integer(octets: &[u8]) -> Result<(), ErrorKind>
     ensures ok { IfOk result (λ _.
         (0 < length octets.now) × (octets.now ≡ integer_contents (twos_complement octets.now))
@@ -52,14 +53,14 @@ pub fn check_integer(octets: &[u8]) -> Result<(), ErrorKind>
     Ok(())
 }
 
-/// Whether a 00 stands before another octet, where it adds nothing to a number.
+/// Returns whether a 00 is before another octet, where it adds nothing to a number.
 fn has_leading_zero(octets: &[u8]) -> bool
     ensures { result ≡ has_leading_zero octets.now }
 {
     matches!(octets, [0x00, _, ..])
 }
 
-/// The octets of the same number that is not negative, without leading zeros: one 00 for zero.
+/// Returns the octets of the same non-negative number, without leading zeros. Zero is one 00.
 pub fn strip_zeros(octets: &[u8]) -> &[u8]
     requires { 0 < length octets.now }
     ensures contents { with_sign_octet result.now
@@ -75,7 +76,7 @@ pub fn strip_zeros(octets: &[u8]) -> &[u8]
     &octets[start..]
 }
 
-/// Whether a first octet 00 stands before an octet below 80 (X.690 8.3.2).
+/// Returns whether a first octet 00 is before an octet below 80 (X.690 8.3.2).
 fn has_needless_zero(octets: &[u8]) -> bool
     ensures { result ≡ has_needless_zero octets.now }
 {
@@ -85,7 +86,7 @@ fn has_needless_zero(octets: &[u8]) -> bool
     }
 }
 
-/// Whether bit 8 of the first octet is set, so that a number has a 00 before it.
+/// Returns whether bit 8 of the first octet is set, so that a number has a 00 before it.
 pub fn is_high(octets: &[u8]) -> bool
     requires { 0 < length octets.now }
     ensures { result ≡ nat_le 128 (slice_index octets.now 0) }
@@ -93,11 +94,11 @@ pub fn is_high(octets: &[u8]) -> bool
     octets[0] >= 0x80
 }
 
-/// Whether the octets are contents octets of a number that is not negative.
+/// Checks that the octets are contents octets of a number that is not negative.
 ///
 /// # Errors
-/// In this order: none, or a 00 before an octet below 80 (`ErrorKind::Noncanonical`, 8); a first
-/// octet of 80 or more (`ErrorKind::Value`, 13).
+/// In this order: no octets, or a 00 before an octet below 80 (`ErrorKind::Noncanonical`, 8); a
+/// first octet of 80 or more (`ErrorKind::Value`, 13).
 pub fn check_natural(octets: &[u8]) -> Result<(), ErrorKind>
     ensures ok { IfOk result (λ _.
         (0 < length octets.now) × (octets.now ≡ natural_contents (big_endian_number octets.now))
@@ -113,7 +114,8 @@ pub fn check_natural(octets: &[u8]) -> Result<(), ErrorKind>
     Ok(())
 }
 
-/// How many contents octets a number has, of which these are the octets without leading zeros.
+/// Returns the number of contents octets of a number. `octets` are its octets without leading
+/// zeros.
 ///
 /// # Errors
 /// `ErrorKind::Overflow` (9) for more than 4294967295.
@@ -127,10 +129,10 @@ pub fn contents_len(octets: &[u8]) -> Result<Length, Error>
     }
 }
 
-/// Writes the contents octets of a number, of which these are the octets without leading zeros.
+/// Writes the contents octets of a number. `octets` are its octets without leading zeros.
 ///
 /// # Errors
-/// The writer's.
+/// The error of the writer.
 pub fn write_contents<W: Writer>(octets: &[u8], writer: &mut W) -> Result<(), Error>
     requires { 0 < length octets.now }
     ensures { Encodes (with_sign_octet octets.now) false (W.state writer.old)
@@ -143,7 +145,7 @@ pub fn write_contents<W: Writer>(octets: &[u8], writer: &mut W) -> Result<(), Er
     writer.write(octets)
 }
 
-/// The lexicographic order of the contents octets of two numbers, of which these are the octets
+/// Compares the contents octets of two numbers lexicographically. `a` and `b` are their octets
 /// without leading zeros.
 pub fn compare_contents(a: &[u8], b: &[u8]) -> Ordering
     requires some_a { 0 < length a.now }

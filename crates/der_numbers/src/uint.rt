@@ -1,9 +1,9 @@
 //! INTEGER of any length that is not negative (X.690 8.3).
 //!
-//! The tag is 02. The contents octets are the number in the fewest octets, the highest first, with a
-//! leading 00 where bit 8 of the highest is set: 127 is 7F, 128 is 00 80, 0 is 00.
+//! The tag is 02. The contents octets are the number in the fewest octets, highest octet first,
+//! with a leading 00 if bit 8 of the highest is set: 127 is 7F, 128 is 00 80, 0 is 00.
 //!
-//! The order of two values is that of their contents octets, and not that of the numbers: 128 is
+//! The order of two values is the order of their contents octets, not of the numbers: 128 is
 //! before 1, and 255 before 127.
 
 ghost use Rattle.std.specs.Prelude.{◌≡◌, ◌^◌, ◌<◌, nat_eq, length, true, false, refl, Some};
@@ -29,16 +29,16 @@ use der_tlv::{Error, Header, Length, Reader, Source, Writer};
 use std::alloc::{AllocError, Global};
 use std::cmp::Ordering;
 
-/// A number of any length that is not negative: at most 4294967295 octets without leading zeros.
+/// A non-negative number of any length, with at most 4294967295 octets without leading zeros.
 ///
 /// The number 128 is kept as 80, without leading zeros, and encoded as 02 02 00 80. A number of
-/// 4294967295 octets of which the first is 80 or more has one contents octet more, and so no
-/// encoding: writing it is refused (`ErrorKind::Overflow`, 9).
+/// 4294967295 octets whose first octet is 80 or more has one contents octet more, and so no
+/// encoding: writing it fails (`ErrorKind::Overflow`, 9).
 ///
 /// # Errors
-/// Reading refuses, in this order: no contents octets, or 00 before an octet below 80
-/// (`ErrorKind::Noncanonical`, 8); a first octet of 80 or more, which makes the integer negative
-/// (`ErrorKind::Value`, 13).
+/// Decoding fails, in this order: on no contents octets, or 00 before an octet below 80
+/// (`ErrorKind::Noncanonical`, 8); on a first octet of 80 or more, which makes the integer
+/// negative (`ErrorKind::Value`, 13).
 #[derive(Debug, Drop)]
 pub struct Uint {
     pub(crate) octets: Vec<u8>,
@@ -52,11 +52,11 @@ pub struct Uint {
 impl Uint {
     ghost use Rattle.der_numbers.specs.Uint.{contents_of};
 
-    /// The number that the octets say, highest octet first.
+    /// Creates the number with these octets, highest octet first.
     ///
     /// # Errors
-    /// `ErrorKind::Length` (7) for no octets, and where more than 4294967295 are left without
-    /// leading zeros; else `ErrorKind::Memory` (1) where memory runs out.
+    /// `ErrorKind::Length` (7) for no octets, or if more than 4294967295 are left without leading
+    /// zeros; else `ErrorKind::Memory` (1) if memory runs out.
     pub fn new(alloc: Global, octets: &[u8]) -> Result<Uint, Error>
         ensures { KeepsNaturalCopy contents_of octets.now result }
     {
@@ -66,8 +66,8 @@ impl Uint {
         }
     }
 
-    /// The octets of the number without leading zeros: one 00 for zero. The contents octets are
-    /// these, with a 00 before them where the first is 80 or more.
+    /// Returns the octets of the number without leading zeros; zero is one 00. The contents
+    /// octets are these, with a 00 before them if the first is 80 or more.
     pub fn as_bytes(&self) -> &[u8]
         ensures octets { result.now ≡ without_sign_octet (contents_of self.now) }
         ensures number { contents_of self.now ≡ natural_contents (big_endian_number result.now) }
@@ -75,21 +75,21 @@ impl Uint {
         self.owned_to_ref().as_bytes()
     }
 
-    /// How many octets the number has without leading zeros.
+    /// Returns the number of octets without leading zeros.
     pub fn len(&self) -> Length
         ensures { result ≡ length (without_sign_octet (contents_of self.now)) }
     {
         self.owned_to_ref().len()
     }
 
-    /// Whether there are no octets: never, since each number has some.
+    /// Returns `false`: each number has octets.
     pub fn is_empty(&self) -> bool
         ensures { result ≡ false }
     {
         self.octets.is_empty()
     }
 
-    /// The number, borrowed.
+    /// Borrows the number.
     pub fn owned_to_ref(&self) -> UintRef<'_>
         ensures { borrowed.contents_of result ≡ contents_of self.now }
     {
@@ -132,7 +132,7 @@ impl<'a, R: Source<'a>> DecodeValue<'a, R> for Uint {
     const TAKES_MEMORY: bool = true;
 
     /// # Errors
-    /// (17) on a failed reader; the first fault of the contents octets; else (1) where memory runs
+    /// (17) on a failed reader; the first error of the contents octets; else (1) if memory runs
     /// out.
     fn decode_value(alloc: Global, reader: &mut R, header: Header) -> Result<Uint, Error> {
         match UintRef::decode_value(alloc, reader, header) {
@@ -202,7 +202,7 @@ impl Ord for Uint {
     ghost matches_eq = { λ v w. texts_ties (with_sign_octet v.octets.items)
         (with_sign_octet w.octets.items) };
 
-    /// The lexicographic order of the contents octets.
+    /// Compares the contents octets lexicographically.
     fn cmp(&self, other: &Uint) -> Ordering {
         compare_contents(&self.octets, &other.octets)
     }

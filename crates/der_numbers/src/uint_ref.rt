@@ -1,9 +1,9 @@
 //! Borrowed INTEGER of any length that is not negative (X.690 8.3).
 //!
-//! The tag is 02. The contents octets are the number in the fewest octets, the highest first, with a
-//! leading 00 where bit 8 of the highest is set: 127 is 7F, 128 is 00 80, 0 is 00.
+//! The tag is 02. The contents octets are the number in the fewest octets, highest octet first,
+//! with a leading 00 if bit 8 of the highest is set: 127 is 7F, 128 is 00 80, 0 is 00.
 //!
-//! The order of two values is that of their contents octets, and not that of the numbers: 128 is
+//! The order of two values is the order of their contents octets, not of the numbers: 128 is
 //! before 1, and 255 before 127.
 
 ghost use Rattle.std.specs.Prelude.{◌≡◌, ◌^◌, ◌<◌, nat_eq, length, false, refl, Some};
@@ -31,17 +31,17 @@ use der_tlv::{Error, ErrorKind, Header, Length, Reader, Source, Tag, Writer};
 use std::alloc::Global;
 use std::cmp::Ordering;
 
-/// A number of any length that is not negative, borrowed: at most 4294967295 octets without leading
+/// A non-negative number of any length, borrowed, with at most 4294967295 octets without leading
 /// zeros.
 ///
 /// The number 128 is kept as 80, without leading zeros, and encoded as 02 02 00 80. A number of
-/// 4294967295 octets of which the first is 80 or more has one contents octet more, and so no
-/// encoding: writing it is refused (`ErrorKind::Overflow`, 9).
+/// 4294967295 octets whose first octet is 80 or more has one contents octet more, and so no
+/// encoding: writing it fails (`ErrorKind::Overflow`, 9).
 ///
 /// # Errors
-/// Reading refuses, in this order: no contents octets, or 00 before an octet below 80
-/// (`ErrorKind::Noncanonical`, 8); a first octet of 80 or more, which makes the integer negative
-/// (`ErrorKind::Value`, 13).
+/// Decoding fails, in this order: on no contents octets, or 00 before an octet below 80
+/// (`ErrorKind::Noncanonical`, 8); on a first octet of 80 or more, which makes the integer
+/// negative (`ErrorKind::Value`, 13).
 #[derive(Clone, Copy, Debug)]
 pub struct UintRef<'a> {
     pub(crate) octets: &'a [u8],
@@ -55,11 +55,11 @@ impl<'a> UintRef<'a> {
     ghost use Rattle.der_numbers.specs.Uint as owned;
     ghost use Rattle.der_numbers.specs.UintRef.{contents_of};
 
-    /// The number that the octets say, highest octet first.
+    /// Creates the number with these octets, highest octet first.
     ///
     /// # Errors
-    /// `ErrorKind::Length` (7) for no octets, and where more than 4294967295 are left without
-    /// leading zeros.
+    /// `ErrorKind::Length` (7) for no octets, or if more than 4294967295 are left without leading
+    /// zeros.
     pub fn new(octets: &'a [u8]) -> Result<UintRef<'a>, Error>
         ensures { KeepsNatural contents_of octets.now result }
     {
@@ -73,11 +73,11 @@ impl<'a> UintRef<'a> {
         }
     }
 
-    /// The number that has these contents octets.
+    /// Creates the number that has these contents octets.
     ///
     /// # Errors
-    /// In this order: none, or a 00 before an octet below 80 (`ErrorKind::Noncanonical`, 8); a
-    /// first octet of 80 or more (`ErrorKind::Value`, 13).
+    /// In this order: no octets, or a 00 before an octet below 80 (`ErrorKind::Noncanonical`, 8);
+    /// a first octet of 80 or more (`ErrorKind::Value`, 13).
     #[tactic(auto, using(crate::specs::UnsignedLaws::sign_octet_length))]
     fn from_contents(octets: &'a [u8]) -> Result<UintRef<'a>, ErrorKind>
         requires { length octets.now < 2 ^ 32 }
@@ -91,8 +91,8 @@ impl<'a> UintRef<'a> {
         }
     }
 
-    /// The octets of the number without leading zeros: one 00 for zero. The contents octets are
-    /// these, with a 00 before them where the first is 80 or more.
+    /// Returns the octets of the number without leading zeros; zero is one 00. The contents
+    /// octets are these, with a 00 before them if the first is 80 or more.
     #[tactic(auto, using(crate::specs::UnsignedLaws::without_sign_octet_kept))]
     pub fn as_bytes(self) -> &'a [u8]
         ensures octets { result.now ≡ without_sign_octet (contents_of self.entry) }
@@ -101,7 +101,7 @@ impl<'a> UintRef<'a> {
         self.octets
     }
 
-    /// How many octets the number has without leading zeros.
+    /// Returns the number of octets without leading zeros.
     #[tactic(auto, using(crate::specs::UnsignedLaws::without_sign_octet_kept))]
     pub fn len(self) -> Length
         ensures { result ≡ length (without_sign_octet (contents_of self.entry)) }
@@ -109,17 +109,17 @@ impl<'a> UintRef<'a> {
         Length::new(self.octets.len() as u32)
     }
 
-    /// Whether there are no octets: never, since each number has some.
+    /// Returns `false`: each number has octets.
     pub fn is_empty(self) -> bool
         ensures { result ≡ false }
     {
         self.octets.is_empty()
     }
 
-    /// The number, copied.
+    /// Copies the number.
     ///
     /// # Errors
-    /// `ErrorKind::Memory` (1) where memory runs out.
+    /// `ErrorKind::Memory` (1) if memory runs out.
     pub fn ref_to_owned(self, alloc: Global) -> Result<Uint, Error>
         ensures { CopiesContents owned.contents_of (contents_of self.entry) result }
     {
@@ -209,7 +209,7 @@ impl<'a> Ord for UintRef<'a> {
     ghost matches_eq = { λ v w. texts_ties (with_sign_octet v.octets.now)
         (with_sign_octet w.octets.now) };
 
-    /// The lexicographic order of the contents octets.
+    /// Compares the contents octets lexicographically.
     fn cmp(&self, other: &UintRef<'a>) -> Ordering {
         compare_contents(self.octets, other.octets)
     }
@@ -226,11 +226,11 @@ impl<'a> ContentsEq for UintRef<'a> {
 
 impl<'a> CopyIsDuplicate for UintRef<'a> {}
 
-/// A value that can be seen as a borrowed number that is not negative.
+/// A value that can be borrowed as a non-negative number.
 pub trait AsUintRef: FormValue {
     ghost use Rattle.der_numbers.specs.UintRef.{contents_of};
 
-    /// The same number, borrowed.
+    /// Borrows the number.
     fn as_uint_ref(&self) -> UintRef<'_>
         ensures { contents_of result ≡ Self.value.contents self.now };
 }

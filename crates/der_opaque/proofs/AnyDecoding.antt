@@ -1,4 +1,4 @@
--- Decoding an encoding with any tag: its faults, and its value.
+-- Decoding an encoding with any tag: its errors, and its value.
 use Rattle.std.proofs.Common.{◌≡◌, ℕ, ◌+◌, List, length, take, Bool, true, false, Ok, Err, inl, inr, refl, sym, ap, ◌∙◌}
 use Rattle.der_tlv.specs.declared.error.ErrorKind.{ErrorKind}
 use Rattle.der_tlv.specs.declared.error.ErrorKind.TheVariants.{Failed}
@@ -15,7 +15,7 @@ use Rattle.der_elem.proofs.AtContents.{AtHeader, AtContents, at_header, refused_
 use Rattle.der_opaque.specs.Opaque.{parse_octets}
 use Rattle.der_opaque.specs.AnyForm.{parse_any, parse_after_header}
 
--- the header's fault is that of the whole encoding
+-- an error of the header is an error of the whole encoding
 header_fault_any : {old new : ReaderState} {kind : ErrorKind} → HeadFault read_header old new kind → (rules : EncodingRules) → unless_failed (parse_any rules) old ≡ Err kind
 unfolding parse_any
 header_fault_any {old} {new} {kind} fault rules = at old.failed refl
@@ -31,11 +31,11 @@ module _ {header : Header} {old mid : ReaderState} (at : AtHeader header old mid
   unfolding parse_any
   parse_is = ap (parse_after_header rules old.position (rest old)) at.head.parsed
 
-  -- contents octets longer than what is left
+  -- contents octets that are longer than what is left
   too_long_any : {new : ReaderState} {kind : ErrorKind} → OctetsRefused mid new header.length kind → unless_failed (parse_any rules) old ≡ Err kind
   too_long_any refused = rw at.head.ready (parse_is ∙ parse_too_long at refused parse_octets rules)
 
--- the fault of a header and its contents octets is that of the whole encoding
+-- an error of a header and its contents octets is an error of the whole encoding
 pub not_read_any : {old new : ReaderState} {kind : ErrorKind} → IsReaderState old → (rules : EncodingRules) → ContentsRefused old new kind → (unless_failed (parse_any rules) old ≡ Err kind) × Refused old new kind
 not_read_any sound rules (inl fault) = (header_fault_any fault rules, fault.reader)
 not_read_any sound rules (inr missing) =

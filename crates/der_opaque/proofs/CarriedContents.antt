@@ -1,4 +1,4 @@
--- Carried contents octets that are read by a reader of their own.
+-- Kept contents octets that a new reader reads.
 use Rattle.std.proofs.Common.{◌≡◌, ℕ, List, true, inl, inr, Result, Ok, Err, sym, ap, ◌∙◌, subst}
 use Rattle.std.specs.Prelude.{IsOk}
 use Rattle.std.proofs.Math.Seq.{take-length}
@@ -13,7 +13,7 @@ use Rattle.der_elem.specs.Accepting.{Fits}
 use Rattle.der_elem.specs.Decoding.{DecodesValue}
 use Rattle.der_opaque.specs.DecodingAs.{DecodesAs, NotDecodedAs}
 
--- a new reader shows all of the octets
+-- a new reader has all of the octets left
 pub rest_opened : (octets : List ℕ) (rules : EncodingRules) {s : ReaderState} → s ≡ new_reader octets rules → rest s ≡ octets
 rest_opened octets rules opens = ap rest opens ∙ take-length octets
 
@@ -39,6 +39,6 @@ module _ {T : Type 0} (C : form.Ghosts T) (F : ContentsFormat T) (rules : Encodi
         | inr f ↦ inr (not_decoded e.kind (ap (F.parse rules 0) (sym (take-length octets)) ∙ f))
       ]
 
-  -- what the type answers of the octets
+  -- the result of decoding the octets as the type
   pub decodes_as : (s new : ReaderState) (r : Result T Error) → s ≡ new_reader octets rules → DecodesValue F header s new r → DecodesAs C F rules header.tag octets r
   decodes_as s new r opens told = at_opened new r (subst (λ s. DecodesValue F header s new r) opens told)

@@ -31,7 +31,7 @@ parse_any-tlv t rules p c x is_tag fits =
     let head = read_header-octets t (length c) p (c ++ x) is_tag (contents_fit t c fits) in
     ap (parse_any rules p) regroup ∙ ap (parse_after_header rules p (h ++ (c ++ x))) head ∙ rw (drop-append_seam h (c ++ x), not_short c x, take-append_seam c x) (ap (λ n. Ok (n, tlv t c)) (sym (length-append h c)))
 
--- the faults are of the octets
+-- the errors are errors of the octets
 any_after_header : (rules : EncodingRules) (p : ℕ) (octets : List ℕ) (r : Result (ℕ × Header) ErrorKind) → IsOfOctets r → IsOfOctets (parse_after_header rules p octets r)
 any_after_header rules p octets (Err k) h = h
 any_after_header rules p octets (Ok (count, header)) h =
@@ -53,7 +53,7 @@ module _ {T : Type 0} (tag_of : T → Tag) (contents : T → List ℕ) where
   pub same_length_any : (rules : EncodingRules) (v : T) (b : List ℕ) → accepts_any tag_of contents rules v b → length (tlv (tag_of v) (contents v)) ≡ length b
   same_length_any rules v b (is_tag, e) = ap length (sym e)
 
--- values with a carried tag are equal exactly if their encodings are
+-- values with any tag are equal exactly if their encodings are
 pub encoding_eq_any : (same_tag same_contents : Bool) (t u : Tag) (c d : List ℕ) → Decides same_tag (t ≡ u) → Decides same_contents (c ≡ d) → IsTrue (same_tag && same_contents) ↔ (tlv t c ≡ tlv u d)
 encoding_eq_any same_tag same_contents t u c d tags contents =
     (λ h. let both = and_parts same_tag same_contents h in ap (λ v. tlv v c) (tags.0 both.0) ∙ ap (tlv u) (contents.0 both.1), λ e. let same = tlv-injective t u c d e in and_from same_tag same_contents (tags.1 same.0) (contents.1 same.1))

@@ -1,4 +1,4 @@
--- What contents octets after a tag are read as the built-in types.
+-- The results of reading contents octets after a tag as the built-in types.
 use Rattle.std.specs.Prelude.{ℕ, ℤ, Bool, List, [], Result}
 use Rattle.der_tlv.specs.declared.error.Error.{Error}
 use Rattle.der_tlv.specs.declared.tag.Tag.{Tag}
@@ -17,10 +17,10 @@ DecodesBoolean = DecodesOwnAs tags.Boolean boolean_contents (λ b. Unit {0}) par
 abbrev pub DecodesNull : {T : Type 0} → Tag → List ℕ → Result T Error → Type 0
 DecodesNull = DecodesOwnAs tags.Null (λ v. []) (λ v. Unit {0}) parse_null
 
--- as an INTEGER of up to so many octets in two's complement
+-- as an INTEGER of at most `width` octets in two's complement
 abbrev pub DecodesSigned : (width : ℕ) → Tag → List ℕ → Result ℤ Error → Type 0
 DecodesSigned width = DecodesOwnAs tags.Integer integer_contents (FitsSignedWidth width) (parse_signed width)
 
--- as an INTEGER that is not negative and has up to so many octets
+-- as an INTEGER that is not negative and has at most `width` octets
 abbrev pub DecodesUnsigned : (width : ℕ) → Tag → List ℕ → Result ℕ Error → Type 0
 DecodesUnsigned width = DecodesOwnAs tags.Integer natural_contents (FitsUnsignedWidth width) (parse_unsigned width)

@@ -1,4 +1,4 @@
--- What an ObjectIdentifier shows, and what octets are read as one.
+-- The value of an ObjectIdentifier that a caller sees, and the octets that are read as one.
 use Rattle.std.specs.Prelude.{ℕ, List, take, Result}
 use Rattle.der_tlv.specs.declared.error.Error.{Error}
 use Rattle.der_tlv.specs.declared.tag.Tag.{Tag}
@@ -9,6 +9,6 @@ use Rattle.der_opaque.specs.ObjectIdentifierOctets.{FromAny}
 abbrev pub octets_of : {max : ℕ} → ObjectIdentifier max → List ℕ
 octets_of identifier = take identifier.count identifier.octets
 
--- what decoding contents octets after a tag as an OBJECT IDENTIFIER of at most so many octets answers
+-- the result of decoding contents octets after a tag as an OBJECT IDENTIFIER of at most `max` octets
 abbrev pub DecodesIdentifier : (max : ℕ) → Tag → List ℕ → Result (ObjectIdentifier max) Error → Type 0
 DecodesIdentifier max = FromAny max octets_of

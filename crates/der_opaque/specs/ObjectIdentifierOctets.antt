@@ -1,4 +1,4 @@
--- The contents octets of an OBJECT IDENTIFIER, which are not looked into.
+-- The contents octets of an OBJECT IDENTIFIER, which are not split into arcs.
 use Rattle.std.proofs.Common.{◌≡◌, ◌≢◌, ◌⊎◌, Some, ℕ, ◌<◌, ◌≤◌, nat_lt, List, [], ◌∷◌, length, take, if◌then◌else◌, false, Ok, Err, Result, refl, ap, ◌∙◌, arith}
 use Rattle.std.proofs.lemmas.List.{length-take}
 use Rattle.std.proofs.lemmas.Bool.Decides.{nat_tests}
@@ -11,16 +11,16 @@ use Rattle.der_tlv.specs.declared.encoding_rules.EncodingRules.{EncodingRules}
 use Rattle.der_tlv.specs.OctetFaults.{IsOfOctets, of_octets_either}
 use Rattle.der_elem.specs.Parsing.{ContentsParse}
 
--- the octets, where there are some (X.690 8.19.2), else (15)
+-- the octets if there is at least one (X.690 8.19.2), else (15)
 abbrev pub some_octets : List ℕ → Result (List ℕ) ErrorKind
 some_octets [] = Err kinds.OidMalformed
 some_octets (octet ∷ others) = Ok (octet ∷ others)
 
--- at most so many octets (7), and some (15)
+-- at most `max` octets (7), and at least one (15)
 abbrev pub parse_identifier : ℕ → ContentsParse
 parse_identifier max rules p c = if nat_lt max (length c) then Err (kinds.Length ObjectIdentifier) else some_octets c
 
--- the faults are of the octets
+-- the errors are errors of the octets
 some_of_octets : (c : List ℕ) → IsOfOctets (some_octets c)
 some_of_octets [] = refl
 some_of_octets (octet ∷ others) = tt
@@ -35,18 +35,18 @@ some_are : (c : List ℕ) → 0 < length c → some_octets c ≡ Ok c
 some_are [] h = absurd (omega arith)
 some_are (octet ∷ others) h = refl
 
--- octets of which there are some, and not too many, are parsed as they are
+-- at least one octet, and at most `max`, are parsed as they are
 pub parse_identifier-within : (max : ℕ) (c : List ℕ) (rules : EncodingRules) (p : ℕ) → 0 < length c → length c ≤ max → parse_identifier max rules p c ≡ Ok c
 parse_identifier-within max c rules p some fits =
     let short : nat_lt max (length c) ≡ false = grind (arith, nat_tests) in rw short (some_are c some)
 
--- those at the front of an array are parsed as they are
+-- the octets at the front of an array are parsed as they are
 pub parse_identifier-kept : (max count : ℕ) (octets c : List ℕ) (rules : EncodingRules) (p : ℕ) → 0 < count → count ≤ max → length octets ≡ max → c ≡ take count octets → parse_identifier max rules p c ≡ Ok (take count octets)
 parse_identifier-kept max count octets c rules p some fits full e =
     let l : length c ≡ count = ap length e ∙ kept_length max count octets fits full in
     parse_identifier-within max c rules p (omega arith) (omega arith) ∙ ap Ok e
 
--- What a tag and octets are read as: an identifier with the octets, or (4) for another tag, (15) for no octets, (7) for more than max.
+-- The result for a tag and octets: an identifier with the octets, or (4) for another tag, (15) for no octets, (7) for more than `max`.
 abbrev pub FromAny : {T : Type 0} → ℕ → (T → List ℕ) → Tag → List ℕ → Result T Error → Type 0
 FromAny max contents t octets (Ok v) = (t ≡ ObjectIdentifier) × (contents v ≡ octets)
 FromAny max contents t octets (Err e) =

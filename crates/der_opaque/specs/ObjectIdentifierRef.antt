@@ -1,4 +1,4 @@
--- What an ObjectIdentifierRef shows, and what octets are read as one.
+-- The value of an ObjectIdentifierRef that a caller sees, and the octets that are read as one.
 use Rattle.std.specs.Prelude.{ℕ, List, Result}
 use Rattle.der_tlv.specs.declared.error.Error.{Error}
 use Rattle.der_tlv.specs.declared.tag.Tag.{Tag}
@@ -9,6 +9,6 @@ use Rattle.der_opaque.specs.ObjectIdentifierOctets.{FromAny}
 abbrev pub octets_of : {max : ℕ} → ObjectIdentifierRef max → List ℕ
 octets_of identifier = identifier.octets.now
 
--- what decoding contents octets after a tag as an OBJECT IDENTIFIER of at most so many octets answers
+-- the result of decoding contents octets after a tag as an OBJECT IDENTIFIER of at most `max` octets
 abbrev pub DecodesIdentifier : (max : ℕ) → Tag → List ℕ → Result (ObjectIdentifierRef max) Error → Type 0
 DecodesIdentifier max = FromAny max octets_of

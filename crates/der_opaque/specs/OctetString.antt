@@ -1,4 +1,4 @@
--- What an OctetString shows.
+-- The value of an OctetString that a caller sees.
 use Rattle.std.specs.Prelude.{ℕ, List}
 use Rattle.der_opaque.specs.declared.octet_string.OctetString.{OctetString}
 

@@ -1,4 +1,4 @@
--- What an OctetStringRef shows, and what octets are read as one.
+-- The value of an OctetStringRef that a caller sees, and the octets that are read as one.
 use Rattle.std.specs.Prelude.{ℕ, List, Result}
 use Rattle.der_tlv.specs.declared.error.Error.{Error}
 use Rattle.der_tlv.specs.declared.tag.Tag.{Tag}
@@ -11,6 +11,6 @@ use Rattle.der_opaque.specs.Opaque.{parse_octets}
 abbrev pub octets_of : OctetStringRef → List ℕ
 octets_of string = string.octets.now
 
--- what decoding contents octets after a tag as an OCTET STRING answers
+-- the result of decoding contents octets after a tag as an OCTET STRING
 abbrev pub DecodesOctetString : Tag → List ℕ → Result OctetStringRef Error → Type 0
 DecodesOctetString = DecodesOwnAs tags.OctetString octets_of (λ string. Unit {0}) parse_octets

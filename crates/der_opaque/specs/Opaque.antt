@@ -1,4 +1,4 @@
--- Contents octets that are kept as they stand.
+-- Contents octets that are kept as they are.
 use Rattle.std.specs.Prelude.{◌≡◌, ℕ, ◌<◌, ◌≤◌, ◌^◌, List, length, Result, Ok, Err}
 use Rattle.der_tlv.specs.declared.error.ErrorKind.TheVariants as kinds
 use Rattle.der_tlv.specs.declared.tag.Tag.{Tag}
@@ -9,7 +9,7 @@ use Rattle.der_elem.specs.Parsing.{ContentsParse}
 abbrev pub parse_octets : ContentsParse
 parse_octets rules p c = Ok c
 
--- a value that keeps these octets, or (7) for more of them than a length can count
+-- a value that keeps these octets, or (7) for more octets than a length can count
 abbrev pub KeepsOctets : {T : Type 0} → (T → List ℕ) → Tag → List ℕ → Result T Error → Type 0
 KeepsOctets contents t octets (Ok v) = (contents v ≡ octets) × (length octets < 2 ^ 32)
 KeepsOctets contents t octets (Err e) = (e.kind ≡ kinds.Length t) × (2 ^ 32 ≤ length octets)

@@ -31,7 +31,7 @@ use der_tlv::{
 use std::alloc::{AllocError, Global};
 use std::cmp::Ordering;
 
-/// A tag and contents octets: at most 4294967295 of them.
+/// A tag and contents octets. There are at most 4294967295 contents octets.
 ///
 /// The encoding 02 01 05 is kept as the tag INTEGER and the octet 05.
 #[derive(Debug, Drop, PartialEq, Eq, PartialOrd, Ord, Hash)]
@@ -45,7 +45,7 @@ pub struct Any {
 impl Any {
     ghost use Rattle.der_opaque.specs.Any.{tag_of, contents_of};
 
-    /// A value with this tag and these contents octets.
+    /// Creates a value with this tag and these contents octets.
     ///
     /// # Errors
     /// `ErrorKind::Length` (7) with the tag for more than 4294967295 octets.
@@ -59,7 +59,7 @@ impl Any {
         }
     }
 
-    /// NULL, 05 00. It takes no memory.
+    /// Returns NULL, 05 00. It takes no memory.
     pub fn null(alloc: Global) -> Any
         ensures tag { tag_of result ≡ tags.Null }
         ensures value { contents_of result ≡ [] }
@@ -70,10 +70,10 @@ impl Any {
         }
     }
 
-    /// A copy of a borrowed value.
+    /// Copies a borrowed value.
     ///
     /// # Errors
-    /// `ErrorKind::Memory` (1) where memory runs out.
+    /// `ErrorKind::Memory` (1) if memory runs out.
     pub fn from_ref(alloc: Global, any: AnyRef<'_>) -> Result<Any, Error>
         ensures value { IfOk result (λ v. (tag_of v ≡ borrowed.tag_of any.entry)
             × (contents_of v ≡ borrowed.contents_of any.entry)) }
@@ -86,12 +86,12 @@ impl Any {
         })
     }
 
-    /// The tag and the contents octets of another value.
+    /// Encodes another value and keeps its tag and contents octets.
     ///
     /// # Errors
-    /// `ErrorKind::Overflow` (9) where it has more than 4294967295 contents octets;
-    /// `ErrorKind::Memory` (1) where it has no more and memory runs out, and where items are read
-    /// again.
+    /// `ErrorKind::Overflow` (9) if the value has more than 4294967295 contents octets;
+    /// `ErrorKind::Memory` (1) if it has no more and memory runs out, or if items are read again
+    /// and no memory is left.
     pub fn encode_from<T: Tagged + EncodeValue>(alloc: Global, value: &T) -> Result<Any, Error>
         ensures ok { IfOk result (λ any.
             (tag_of any ≡ T.tag_of value.now) × (contents_of any ≡ T.value.contents value.now)) }
@@ -107,14 +107,14 @@ impl Any {
         })
     }
 
-    /// The contents octets.
+    /// Returns the contents octets.
     pub fn value(&self) -> &[u8]
         ensures { result.now ≡ contents_of self.now }
     {
         &self.value
     }
 
-    /// The header of the encoding.
+    /// Returns the header of the encoding.
     pub fn header(&self) -> Header
         ensures tag { result.tag ≡ tag_of self.now }
         ensures length { result.length ≡ length (contents_of self.now) }
@@ -122,11 +122,12 @@ impl Any {
         self.to_ref().header()
     }
 
-    /// A value of the type from the contents octets, under DER.
+    /// Decodes the contents octets as a value of the type, under DER.
     ///
     /// # Errors
-    /// `ErrorKind::TagUnexpected` (4) with no expected tag where no value of the type has the tag;
-    /// the first fault of the contents octets; `ErrorKind::Memory` (1) where the type takes memory.
+    /// `ErrorKind::TagUnexpected` (4) with no expected tag if no value of the type has the tag;
+    /// the first error of the contents octets; `ErrorKind::Memory` (1) if the type takes memory
+    /// and none is left.
     pub fn decode_as<'a, T: Choice + DecodeValue<'a, SliceReader<'a>>>(
         &'a self,
         alloc: Global,
@@ -136,11 +137,12 @@ impl Any {
         self.to_ref().decode_as(alloc)
     }
 
-    /// A value of the type from the contents octets, under these rules.
+    /// Decodes the contents octets as a value of the type, under these rules.
     ///
     /// # Errors
-    /// `ErrorKind::TagUnexpected` (4) with no expected tag where no value of the type has the tag;
-    /// the first fault of the contents octets; `ErrorKind::Memory` (1) where the type takes memory.
+    /// `ErrorKind::TagUnexpected` (4) with no expected tag if no value of the type has the tag;
+    /// the first error of the contents octets; `ErrorKind::Memory` (1) if the type takes memory
+    /// and none is left.
     pub fn decode_as_encoding<'a, T: Choice + DecodeValue<'a, SliceReader<'a>>>(
         &'a self,
         alloc: Global,
@@ -152,12 +154,12 @@ impl Any {
         self.to_ref().decode_as_encoding(alloc, rules)
     }
 
-    /// Reads the contents octets of a SEQUENCE, all of them, by a function.
+    /// Reads all contents octets of a SEQUENCE with a function.
     ///
     /// # Errors
-    /// `ErrorKind::TagUnexpected` (4) with SEQUENCE expected for another tag; the function's;
-    /// `ErrorKind::Failed` (17) where it answered a value although its reader had refused;
-    /// `ErrorKind::TrailingData` (3) where octets are left over.
+    /// `ErrorKind::TagUnexpected` (4) with SEQUENCE expected for another tag; the function's
+    /// error; `ErrorKind::Failed` (17) if the function returned a value although its reader had
+    /// failed; `ErrorKind::TrailingData` (3) if octets are left over.
     pub fn sequence<'a, T: Drop, E: From<Error>, F: FnOnce(&mut SliceReader<'a>) -> Result<T, E>>(
         &'a self,
         f: F,
@@ -171,7 +173,7 @@ impl Any {
         self.to_ref().sequence(f)
     }
 
-    /// The value, borrowed.
+    /// Borrows the value.
     pub fn to_ref(&self) -> AnyRef<'_>
         ensures tag { borrowed.tag_of result ≡ tag_of self.now }
         ensures value { borrowed.contents_of result ≡ contents_of self.now }
@@ -182,7 +184,7 @@ impl Any {
         }
     }
 
-    /// The value, borrowed: the same call as `to_ref`.
+    /// Borrows the value, like `to_ref`.
     pub fn owned_to_ref(&self) -> AnyRef<'_>
         ensures tag { borrowed.tag_of result ≡ tag_of self.now }
         ensures value { borrowed.contents_of result ≡ contents_of self.now }
@@ -190,7 +192,7 @@ impl Any {
         AnyRef::from(self)
     }
 
-    /// Whether this is NULL, 05 00.
+    /// Returns whether this is NULL, 05 00.
     pub fn is_null(&self) -> bool
         ensures { IsTrue result ↔ ((tag_of self.now ≡ tags.Null) × (contents_of self.now ≡ [])) }
     {
@@ -309,7 +311,7 @@ impl<'a, R: Source<'a>> DecodeValue<'a, R> for Any {
     const TAKES_MEMORY: bool = true;
 
     /// # Errors
-    /// (17) on a failed reader; else (1) where memory runs out.
+    /// (17) on a failed reader; else (1) if memory runs out.
     fn decode_value(alloc: Global, reader: &mut R, header: Header) -> Result<Any, Error> {
         match AnyRef::decode_value(alloc, reader, header) {
             Ok(any) => match Any::from_ref(alloc, any) {
@@ -329,8 +331,8 @@ impl<'a, R: Source<'a>> Decode<'a, R> for Any {
     const TAKES_MEMORY: bool = true;
 
     /// # Errors
-    /// (17) on a failed reader; the header's faults; contents longer than what is left (2), (9); else
-    /// `ErrorKind::Memory` (1) where memory runs out.
+    /// (17) on a failed reader; the errors of the header; (2) or (9) for contents octets that are
+    /// longer than what is left; else `ErrorKind::Memory` (1) if memory runs out.
     fn decode(alloc: Global, reader: &mut R) -> Result<Any, Error> {
         match AnyRef::decode(alloc, reader) {
             Ok(any) => match Any::from_ref(alloc, any) {

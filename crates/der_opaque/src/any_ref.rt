@@ -30,7 +30,7 @@ use der_tlv::{
 use std::alloc::Global;
 use std::cmp::Ordering;
 
-/// A tag and contents octets, borrowed: at most 4294967295 of them.
+/// A tag and contents octets, borrowed. There are at most 4294967295 contents octets.
 ///
 /// The encoding 02 01 05 is kept as the tag INTEGER and the octet 05.
 #[derive(Clone, Copy, Debug, PartialEq, Eq, PartialOrd, Ord, Hash)]
@@ -52,7 +52,7 @@ impl<'a> AnyRef<'a> {
         value: &[],
     };
 
-    /// A value with this tag and these contents octets.
+    /// Creates a value with this tag and these contents octets.
     ///
     /// # Errors
     /// `ErrorKind::Length` (7) with the tag for more than 4294967295 octets.
@@ -66,14 +66,14 @@ impl<'a> AnyRef<'a> {
         }
     }
 
-    /// The contents octets.
+    /// Returns the contents octets.
     pub fn value(self) -> &'a [u8]
         ensures { result.now ≡ contents_of self.entry }
     {
         self.value
     }
 
-    /// The header of the encoding.
+    /// Returns the header of the encoding.
     pub fn header(&self) -> Header
         ensures tag { result.tag ≡ tag_of self.now }
         ensures length { result.length ≡ length (contents_of self.now) }
@@ -81,7 +81,7 @@ impl<'a> AnyRef<'a> {
         Header::new(self.tag, Length::new(self.value.len() as u32))
     }
 
-    /// Whether this is NULL, 05 00.
+    /// Returns whether this is NULL, 05 00.
     pub fn is_null(self) -> bool
         ensures { IsTrue result
             ↔ ((tag_of self.entry ≡ tags.Null) × (contents_of self.entry ≡ [])) }
@@ -89,11 +89,12 @@ impl<'a> AnyRef<'a> {
         self.tag == Tag::Null && self.value.is_empty()
     }
 
-    /// A value of the type from the contents octets, under DER.
+    /// Decodes the contents octets as a value of the type, under DER.
     ///
     /// # Errors
-    /// `ErrorKind::TagUnexpected` (4) with no expected tag where no value of the type has the tag;
-    /// the first fault of the contents octets; `ErrorKind::Memory` (1) where the type takes memory.
+    /// `ErrorKind::TagUnexpected` (4) with no expected tag if no value of the type has the tag;
+    /// the first error of the contents octets; `ErrorKind::Memory` (1) if the type takes memory
+    /// and none is left.
     pub fn decode_as<T: Choice + DecodeValue<'a, SliceReader<'a>>>(
         self,
         alloc: Global,
@@ -104,11 +105,12 @@ impl<'a> AnyRef<'a> {
         self.decode_as_encoding(alloc, EncodingRules::Der)
     }
 
-    /// A value of the type from the contents octets, under these rules.
+    /// Decodes the contents octets as a value of the type, under these rules.
     ///
     /// # Errors
-    /// `ErrorKind::TagUnexpected` (4) with no expected tag where no value of the type has the tag;
-    /// the first fault of the contents octets; `ErrorKind::Memory` (1) where the type takes memory.
+    /// `ErrorKind::TagUnexpected` (4) with no expected tag if no value of the type has the tag;
+    /// the first error of the contents octets; `ErrorKind::Memory` (1) if the type takes memory
+    /// and none is left.
     pub fn decode_as_encoding<T: Choice + DecodeValue<'a, SliceReader<'a>>>(
         self,
         alloc: Global,
@@ -127,12 +129,12 @@ impl<'a> AnyRef<'a> {
         T::decode_value(alloc, &mut reader, self.header())
     }
 
-    /// Reads the contents octets of a SEQUENCE, all of them, by a function.
+    /// Reads all contents octets of a SEQUENCE with a function.
     ///
     /// # Errors
-    /// `ErrorKind::TagUnexpected` (4) with SEQUENCE expected for another tag; the function's;
-    /// `ErrorKind::Failed` (17) where it answered a value although its reader had refused;
-    /// `ErrorKind::TrailingData` (3) where octets are left over.
+    /// `ErrorKind::TagUnexpected` (4) with SEQUENCE expected for another tag; the function's
+    /// error; `ErrorKind::Failed` (17) if the function returned a value although its reader had
+    /// failed; `ErrorKind::TrailingData` (3) if octets are left over.
     pub fn sequence<T: Drop, E: From<Error>, F: FnOnce(&mut SliceReader<'a>) -> Result<T, E>>(
         self,
         f: F,
@@ -159,10 +161,10 @@ impl<'a> AnyRef<'a> {
         }
     }
 
-    /// The value, copied.
+    /// Copies the value.
     ///
     /// # Errors
-    /// `ErrorKind::Memory` (1) where memory runs out.
+    /// `ErrorKind::Memory` (1) if memory runs out.
     pub fn ref_to_owned(self, alloc: Global) -> Result<Any, Error>
         ensures value { IfOk result (λ v.
             (owned.tag_of v ≡ tag_of self.entry) × (owned.contents_of v ≡ contents_of self.entry)) }
@@ -260,7 +262,7 @@ impl<'a> Tagged for AnyRef<'a> {
 impl<'a> Choice for AnyRef<'a> {
     ghost use Rattle.der_opaque.specs.AnyRef.{tag_of};
 
-    /// Any tag is one of its encodings.
+    /// Returns `true`: an encoding with any tag can be decoded.
     fn can_decode(_tag: Tag) -> bool
         ensures { result ≡ true }
     {
@@ -387,12 +389,12 @@ impl<'a> TryFrom<&'a [u8]> for AnyRef<'a> {
 
     ghost try_from_gives = { λ b r. ReadsAll any_form b.now r };
 
-    /// The value that these octets encode, and nothing else, under DER.
+    /// Decodes these octets as one value and nothing else, under DER.
     ///
     /// # Errors
-    /// `ErrorKind::Overflow` (9) for more than 4294967295 octets; the first fault of the header;
-    /// `ErrorKind::Incomplete` (2) or `ErrorKind::Overflow` (9) for contents that are longer than
-    /// what is left; `ErrorKind::TrailingData` (3) where octets are left over.
+    /// `ErrorKind::Overflow` (9) for more than 4294967295 octets; the first error of the header;
+    /// `ErrorKind::Incomplete` (2) or `ErrorKind::Overflow` (9) for contents octets that are
+    /// longer than what is left; `ErrorKind::TrailingData` (3) if octets are left over.
     fn try_from(bytes: &'a [u8]) -> Result<AnyRef<'a>, Error> {
         let mut reader = match SliceReader::new(bytes) {
             Ok(reader) => reader,

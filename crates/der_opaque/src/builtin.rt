@@ -1,7 +1,7 @@
-//! BOOLEAN, NULL, INTEGER and UTF8String, which the built-in types are, from carried contents octets.
+//! BOOLEAN, NULL, INTEGER and UTF8String as built-in types, from kept contents octets.
 //!
-//! Each refuses another tag (4, with no expected tag), and then what reading the type refuses. It
-//! takes no memory.
+//! Each conversion fails on another tag (4, with no expected tag), and then with the errors of
+//! decoding the type. It takes no memory.
 
 ghost use Rattle.std.specs.Prelude.{◌≡◌, ◌≤◌, ◌<◌, true};
 ghost use Rattle.std.specs.Str.{is_utf8};
@@ -15,12 +15,12 @@ use crate::any_ref::AnyRef;
 use der_elem::{boolean_of, null_of, signed_of, text_of, unsigned_of};
 use der_tlv::{Error, Tag};
 
-/// The integer that carried contents octets are, at a width of up to 16 octets.
+/// Decodes contents octets as an integer of at most `width` octets, which is up to 16.
 ///
 /// # Errors
-/// `ErrorKind::TagUnexpected` (4) with no expected tag for another tag than INTEGER. Else, in this
-/// order: no octets (`ErrorKind::Length`, 7); more than the width (`ErrorKind::Noncanonical`, 8); a
-/// redundant first octet (`ErrorKind::Noncanonical`, 8).
+/// `ErrorKind::TagUnexpected` (4) with no expected tag for another tag than INTEGER. Else, in
+/// this order: no octets (`ErrorKind::Length`, 7); more than the width
+/// (`ErrorKind::Noncanonical`, 8); a redundant first octet (`ErrorKind::Noncanonical`, 8).
 fn signed_as(any: AnyRef<'_>, width: usize) -> Result<i128, Error>
     requires some { 0 < width }
     requires most { width ≤ 16 }
@@ -35,14 +35,14 @@ fn signed_as(any: AnyRef<'_>, width: usize) -> Result<i128, Error>
     }
 }
 
-/// The number that carried contents octets are, at a width of up to 16 octets.
+/// Decodes contents octets as a number of at most `width` octets, which is up to 16.
 ///
 /// # Errors
-/// `ErrorKind::TagUnexpected` (4) with no expected tag for another tag than INTEGER. Else, in this
-/// order: no octets (`ErrorKind::Length`, 7); more than the width and one
-/// (`ErrorKind::Noncanonical`, 8); a 00 before an octet below 80 (`ErrorKind::Noncanonical`, 8); a
-/// negative number (`ErrorKind::Value`, 13); one octet more than the width, of which the first is
-/// not 00 (`ErrorKind::Length`, 7).
+/// `ErrorKind::TagUnexpected` (4) with no expected tag for another tag than INTEGER. Else, in
+/// this order: no octets (`ErrorKind::Length`, 7); more than the width plus one
+/// (`ErrorKind::Noncanonical`, 8); a 00 before an octet below 80 (`ErrorKind::Noncanonical`, 8);
+/// a negative number (`ErrorKind::Value`, 13); the width plus one octets whose first octet is not
+/// 00 (`ErrorKind::Length`, 7).
 fn unsigned_as(any: AnyRef<'_>, width: usize) -> Result<u128, Error>
     requires some { 0 < width }
     requires most { width ≤ 16 }
@@ -62,7 +62,7 @@ impl<'a> TryFrom<AnyRef<'a>> for bool {
 
     ghost try_from_gives = { λ a r. DecodesBoolean (tag_of a) (contents_of a) r };
 
-    /// The truth value that one contents octet is, under DER: 00 for false, FF for true.
+    /// Decodes one contents octet as a truth value, under DER: 00 is false, FF is true.
     ///
     /// # Errors
     /// `ErrorKind::TagUnexpected` (4) with no expected tag for another tag; `ErrorKind::Length` (7)
@@ -84,7 +84,7 @@ impl<'a> TryFrom<AnyRef<'a>> for () {
 
     ghost try_from_gives = { λ a r. DecodesNull (tag_of a) (contents_of a) r };
 
-    /// The value of NULL, of no contents octets.
+    /// Decodes NULL, which has no contents octets.
     ///
     /// # Errors
     /// `ErrorKind::TagUnexpected` (4) with no expected tag for another tag; `ErrorKind::Length` (7)
@@ -106,7 +106,7 @@ impl<'a> TryFrom<AnyRef<'a>> for &'a str {
     ghost try_from_gives = { λ a r. DecodesOwnAs Utf8String (λ text. text.now) (λ text.
         is_utf8 text.now ≡ true) parse_utf8 (tag_of a) (contents_of a) r };
 
-    /// The text of a UTF8String, which the contents octets are in UTF-8.
+    /// Decodes the contents octets of a UTF8String, which are UTF-8, as a text.
     ///
     /// # Errors
     /// `ErrorKind::TagUnexpected` (4) with no expected tag for another tag; `ErrorKind::Utf8` (12)
@@ -127,7 +127,7 @@ impl<'a> TryFrom<AnyRef<'a>> for i8 {
 
     ghost try_from_gives = { λ a r. DecodesSigned 1 (tag_of a) (contents_of a) r };
 
-    /// The integer that the contents octets are the two's complement of, under DER.
+    /// Decodes the contents octets as an integer in two's complement, under DER.
     ///
     /// # Errors
     /// `ErrorKind::TagUnexpected` (4) with no expected tag for another tag; `ErrorKind::Length` (7)
@@ -145,7 +145,7 @@ impl<'a> TryFrom<AnyRef<'a>> for i16 {
 
     ghost try_from_gives = { λ a r. DecodesSigned 2 (tag_of a) (contents_of a) r };
 
-    /// The integer that the contents octets are the two's complement of, under DER.
+    /// Decodes the contents octets as an integer in two's complement, under DER.
     ///
     /// # Errors
     /// `ErrorKind::TagUnexpected` (4) with no expected tag for another tag; `ErrorKind::Length` (7)
@@ -163,7 +163,7 @@ impl<'a> TryFrom<AnyRef<'a>> for i32 {
 
     ghost try_from_gives = { λ a r. DecodesSigned 4 (tag_of a) (contents_of a) r };
 
-    /// The integer that the contents octets are the two's complement of, under DER.
+    /// Decodes the contents octets as an integer in two's complement, under DER.
     ///
     /// # Errors
     /// `ErrorKind::TagUnexpected` (4) with no expected tag for another tag; `ErrorKind::Length` (7)
@@ -181,7 +181,7 @@ impl<'a> TryFrom<AnyRef<'a>> for i64 {
 
     ghost try_from_gives = { λ a r. DecodesSigned 8 (tag_of a) (contents_of a) r };
 
-    /// The integer that the contents octets are the two's complement of, under DER.
+    /// Decodes the contents octets as an integer in two's complement, under DER.
     ///
     /// # Errors
     /// `ErrorKind::TagUnexpected` (4) with no expected tag for another tag; `ErrorKind::Length` (7)
@@ -199,7 +199,7 @@ impl<'a> TryFrom<AnyRef<'a>> for i128 {
 
     ghost try_from_gives = { λ a r. DecodesSigned 16 (tag_of a) (contents_of a) r };
 
-    /// The integer that the contents octets are the two's complement of, under DER.
+    /// Decodes the contents octets as an integer in two's complement, under DER.
     ///
     /// # Errors
     /// `ErrorKind::TagUnexpected` (4) with no expected tag for another tag; `ErrorKind::Length` (7)
@@ -214,14 +214,14 @@ impl<'a> TryFrom<AnyRef<'a>> for u8 {
 
     ghost try_from_gives = { λ a r. DecodesUnsigned 1 (tag_of a) (contents_of a) r };
 
-    /// The number that the contents octets are, with a 00 before a first octet of 80 or more, under
-    /// DER.
+    /// Decodes the contents octets as a number, under DER. A first octet of 80 or more has a 00
+    /// before it.
     ///
     /// # Errors
-    /// `ErrorKind::TagUnexpected` (4) with no expected tag for another tag; `ErrorKind::Length` (7)
-    /// for no octets; `ErrorKind::Noncanonical` (8) for more than 2, or a 00 before an octet below
-    /// 80; `ErrorKind::Value` (13) for a negative number; `ErrorKind::Length` (7) for 2 octets of
-    /// which the first is not 00.
+    /// `ErrorKind::TagUnexpected` (4) with no expected tag for another tag; `ErrorKind::Length`
+    /// (7) for no octets; `ErrorKind::Noncanonical` (8) for more than 2, or a 00 before an octet
+    /// below 80; `ErrorKind::Value` (13) for a negative number; `ErrorKind::Length` (7) for 2
+    /// octets whose first octet is not 00.
     fn try_from(any: AnyRef<'a>) -> Result<u8, Error> {
         match unsigned_as(any, 1) {
             Ok(number) => Ok(number as u8),
@@ -235,14 +235,14 @@ impl<'a> TryFrom<AnyRef<'a>> for u16 {
 
     ghost try_from_gives = { λ a r. DecodesUnsigned 2 (tag_of a) (contents_of a) r };
 
-    /// The number that the contents octets are, with a 00 before a first octet of 80 or more, under
-    /// DER.
+    /// Decodes the contents octets as a number, under DER. A first octet of 80 or more has a 00
+    /// before it.
     ///
     /// # Errors
-    /// `ErrorKind::TagUnexpected` (4) with no expected tag for another tag; `ErrorKind::Length` (7)
-    /// for no octets; `ErrorKind::Noncanonical` (8) for more than 3, or a 00 before an octet below
-    /// 80; `ErrorKind::Value` (13) for a negative number; `ErrorKind::Length` (7) for 3 octets of
-    /// which the first is not 00.
+    /// `ErrorKind::TagUnexpected` (4) with no expected tag for another tag; `ErrorKind::Length`
+    /// (7) for no octets; `ErrorKind::Noncanonical` (8) for more than 3, or a 00 before an octet
+    /// below 80; `ErrorKind::Value` (13) for a negative number; `ErrorKind::Length` (7) for 3
+    /// octets whose first octet is not 00.
     fn try_from(any: AnyRef<'a>) -> Result<u16, Error> {
         match unsigned_as(any, 2) {
             Ok(number) => Ok(number as u16),
@@ -256,14 +256,14 @@ impl<'a> TryFrom<AnyRef<'a>> for u32 {
 
     ghost try_from_gives = { λ a r. DecodesUnsigned 4 (tag_of a) (contents_of a) r };
 
-    /// The number that the contents octets are, with a 00 before a first octet of 80 or more, under
-    /// DER.
+    /// Decodes the contents octets as a number, under DER. A first octet of 80 or more has a 00
+    /// before it.
     ///
     /// # Errors
-    /// `ErrorKind::TagUnexpected` (4) with no expected tag for another tag; `ErrorKind::Length` (7)
-    /// for no octets; `ErrorKind::Noncanonical` (8) for more than 5, or a 00 before an octet below
-    /// 80; `ErrorKind::Value` (13) for a negative number; `ErrorKind::Length` (7) for 5 octets of
-    /// which the first is not 00.
+    /// `ErrorKind::TagUnexpected` (4) with no expected tag for another tag; `ErrorKind::Length`
+    /// (7) for no octets; `ErrorKind::Noncanonical` (8) for more than 5, or a 00 before an octet
+    /// below 80; `ErrorKind::Value` (13) for a negative number; `ErrorKind::Length` (7) for 5
+    /// octets whose first octet is not 00.
     fn try_from(any: AnyRef<'a>) -> Result<u32, Error> {
         match unsigned_as(any, 4) {
             Ok(number) => Ok(number as u32),
@@ -277,14 +277,14 @@ impl<'a> TryFrom<AnyRef<'a>> for u64 {
 
     ghost try_from_gives = { λ a r. DecodesUnsigned 8 (tag_of a) (contents_of a) r };
 
-    /// The number that the contents octets are, with a 00 before a first octet of 80 or more, under
-    /// DER.
+    /// Decodes the contents octets as a number, under DER. A first octet of 80 or more has a 00
+    /// before it.
     ///
     /// # Errors
-    /// `ErrorKind::TagUnexpected` (4) with no expected tag for another tag; `ErrorKind::Length` (7)
-    /// for no octets; `ErrorKind::Noncanonical` (8) for more than 9, or a 00 before an octet below
-    /// 80; `ErrorKind::Value` (13) for a negative number; `ErrorKind::Length` (7) for 9 octets of
-    /// which the first is not 00.
+    /// `ErrorKind::TagUnexpected` (4) with no expected tag for another tag; `ErrorKind::Length`
+    /// (7) for no octets; `ErrorKind::Noncanonical` (8) for more than 9, or a 00 before an octet
+    /// below 80; `ErrorKind::Value` (13) for a negative number; `ErrorKind::Length` (7) for 9
+    /// octets whose first octet is not 00.
     fn try_from(any: AnyRef<'a>) -> Result<u64, Error> {
         match unsigned_as(any, 8) {
             Ok(number) => Ok(number as u64),
@@ -298,14 +298,14 @@ impl<'a> TryFrom<AnyRef<'a>> for u128 {
 
     ghost try_from_gives = { λ a r. DecodesUnsigned 16 (tag_of a) (contents_of a) r };
 
-    /// The number that the contents octets are, with a 00 before a first octet of 80 or more, under
-    /// DER.
+    /// Decodes the contents octets as a number, under DER. A first octet of 80 or more has a 00
+    /// before it.
     ///
     /// # Errors
-    /// `ErrorKind::TagUnexpected` (4) with no expected tag for another tag; `ErrorKind::Length` (7)
-    /// for no octets; `ErrorKind::Noncanonical` (8) for more than 17, or a 00 before an octet below
-    /// 80; `ErrorKind::Value` (13) for a negative number; `ErrorKind::Length` (7) for 17 octets of
-    /// which the first is not 00.
+    /// `ErrorKind::TagUnexpected` (4) with no expected tag for another tag; `ErrorKind::Length`
+    /// (7) for no octets; `ErrorKind::Noncanonical` (8) for more than 17, or a 00 before an octet
+    /// below 80; `ErrorKind::Value` (13) for a negative number; `ErrorKind::Length` (7) for 17
+    /// octets whose first octet is not 00.
     fn try_from(any: AnyRef<'a>) -> Result<u128, Error> {
         unsigned_as(any, 16)
     }

@@ -1,4 +1,4 @@
-//! Laws of values whose contents octets are kept as they stand.
+//! Laws of values whose contents octets are kept as they are.
 
 ghost use Rattle.std.specs.Prelude.{◌≡◌, [], ◌∷◌};
 ghost use Rattle.std.specs.Ordering.{ordering_then};
@@ -19,8 +19,7 @@ use der_elem::{FixedTag, FormValue, Tagged};
 use der_tlv::Tag;
 use std::cmp::Ordering;
 
-/// The order of two values with any tags: that of their identifier octets, then that of their
-/// contents octets.
+/// Compares two values with any tags: first their identifier octets, then their contents octets.
 pub fn tag_then_contents(one: &Any, other: &Any) -> Ordering
     ensures { result ≡ ordering_then (lex (identifier (tag_of one.now))
         (identifier (tag_of other.now))) (lex (contents_of one.now) (contents_of other.now)) }
@@ -28,7 +27,8 @@ pub fn tag_then_contents(one: &Any, other: &Any) -> Ordering
     one.cmp(other)
 }
 
-/// The same of borrowed values.
+/// Compares two borrowed values with any tags: first their identifier octets, then their contents
+/// octets.
 pub fn borrowed_tag_then_contents<'a>(one: &AnyRef<'a>, other: &AnyRef<'a>) -> Ordering
     ensures { result ≡ ordering_then
         (lex (identifier (borrowed.tag_of one.now)) (identifier (borrowed.tag_of other.now)))
@@ -37,7 +37,7 @@ pub fn borrowed_tag_then_contents<'a>(one: &AnyRef<'a>, other: &AnyRef<'a>) -> O
     one.cmp(other)
 }
 
-/// The tags of the types (X.680 8.6): of `Null`, `OctetString`, `OctetStringRef`,
+/// Returns the tags of the types (X.680 8.6): of `Null`, `OctetString`, `OctetStringRef`,
 /// `ObjectIdentifier` and `ObjectIdentifierRef`.
 pub fn universal_tags() -> [Tag; 5]
     ensures { result ≡ tags.Null ∷ tags.OctetString ∷ tags.OctetString
@@ -52,7 +52,7 @@ pub fn universal_tags() -> [Tag; 5]
     ]
 }
 
-/// `AnyRef::NULL` has the tag of NULL and no contents octets.
+/// Returns `AnyRef::NULL`, which has the tag of NULL and no contents octets.
 pub fn null() -> AnyRef<'static>
     ensures tag { borrowed.tag_of result ≡ tags.Null }
     ensures contents { borrowed.contents_of result ≡ [] }

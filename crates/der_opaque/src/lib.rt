@@ -1,4 +1,4 @@
-//! Values whose contents octets are kept as they stand: any value, NULL, OCTET STRING and OBJECT
+//! Values whose contents octets are kept as they are: any value, NULL, OCTET STRING and OBJECT
 //! IDENTIFIER.
 //!
 //! ```rust

@@ -22,7 +22,7 @@ use std::alloc::Global;
 /// The one value of NULL, which is encoded as 05 00.
 ///
 /// # Errors
-/// Reading refuses any contents octets (`ErrorKind::Length`, 7).
+/// Decoding fails on any contents octets (`ErrorKind::Length`, 7).
 #[derive(Clone, Copy, Debug, Default, PartialEq, Eq, PartialOrd, Ord)]
 pub struct Null;
 

@@ -1,6 +1,6 @@
 //! OBJECT IDENTIFIER (X.690 8.19).
 //!
-//! The tag is 06. The contents octets are kept as they stand: they are not split into arcs.
+//! The tag is 06. The contents octets are kept as they are; they are not split into arcs.
 
 ghost use Rattle.std.specs.Prelude.{◌≡◌, ◌↔◌, ◌^◌, ◌+◌, ◌<◌, ◌≤◌, ◌⊎◌, nat_eq, if◌then◌else◌, length, take, drop, refl, IsOk, IfOk, IfErr, IfSome, Some, false};
 ghost use Rattle.std.proofs.Common.{Ok, ap};
@@ -28,16 +28,16 @@ use std::cmp::Ordering;
 use std::fmt;
 use std::hash::{Hash, Hasher};
 
-/// The octets of an OBJECT IDENTIFIER: 1 to `MAX_SIZE` of them, and at most 4294967295.
+/// The octets of an OBJECT IDENTIFIER. There are 1 to `MAX_SIZE` of them, and at most 4294967295.
 ///
 /// The octets 55 04 03 are encoded as 06 03 55 04 03.
 ///
 /// # Errors
-/// Reading refuses more than `MAX_SIZE` octets (`ErrorKind::Length`, 7), then none
+/// Decoding fails on more than `MAX_SIZE` octets (`ErrorKind::Length`, 7), then on none
 /// (`ErrorKind::OidMalformed`, 15).
 #[derive(Clone, Copy)]
 pub struct ObjectIdentifier<const MAX_SIZE: usize> {
-    // The first `count` are the identifier's; the others may be any.
+    // The first `count` octets are those of the identifier; the others may have any value.
     octets: [u8; MAX_SIZE],
     count: Length,
     ghost some: { 0 < count },
@@ -49,11 +49,11 @@ impl<const MAX_SIZE: usize> ObjectIdentifier<MAX_SIZE> {
     ghost use Rattle.der_opaque.specs.ObjectIdentifier.{octets_of};
     ghost use Rattle.der_opaque.specs.ObjectIdentifierRef as borrowed;
 
-    /// An identifier of these contents octets.
+    /// Creates an identifier with these contents octets.
     ///
     /// # Errors
-    /// `ErrorKind::OidMalformed` (15) for none; `ErrorKind::Length` (7) for more than `MAX_SIZE` or
-    /// than 4294967295.
+    /// `ErrorKind::OidMalformed` (15) for no octets; `ErrorKind::Length` (7) for more than
+    /// `MAX_SIZE` or more than 4294967295.
     pub fn from_bytes(bytes: &[u8]) -> Result<ObjectIdentifier<MAX_SIZE>, Error>
         ensures ok { IsOk result ↔ ((0 < length bytes.now) × (length bytes.now ≤ MAX_SIZE)
             × (length bytes.now < 2 ^ 32)) }
@@ -73,7 +73,8 @@ impl<const MAX_SIZE: usize> ObjectIdentifier<MAX_SIZE> {
         }
     }
 
-    /// An identifier of these contents octets, of which there are some, and not too many.
+    /// Creates an identifier with these contents octets. There is at least one, and there are not
+    /// too many.
     pub(crate) fn from_some(bytes: &[u8]) -> ObjectIdentifier<MAX_SIZE>
         requires some { 0 < length bytes.now }
         requires few { length bytes.now ≤ MAX_SIZE }
@@ -85,8 +86,8 @@ impl<const MAX_SIZE: usize> ObjectIdentifier<MAX_SIZE> {
         ObjectIdentifier { octets, count }
     }
 
-    /// An identifier of the octets, so many, that stand after `start`. It takes `MAX_SIZE` octets
-    /// from there where the input has them: those after the identifier's own say nothing.
+    /// Creates an identifier from `count` octets after `start`. It copies `MAX_SIZE` octets from
+    /// there if the input has them: the octets after the identifier's own are ignored.
     #[inline(always)]
     fn from_front(bytes: &[u8], start: usize, count: Length) -> ObjectIdentifier<MAX_SIZE>
         requires some { 0 < count }
@@ -101,7 +102,7 @@ impl<const MAX_SIZE: usize> ObjectIdentifier<MAX_SIZE> {
         ObjectIdentifier { octets, count }
     }
 
-    /// Reads so many octets as an identifier.
+    /// Reads `count` octets as an identifier.
     #[inline(always)]
     fn read_front<'a, R: Source<'a>>(
         reader: &mut R,
@@ -119,7 +120,7 @@ impl<const MAX_SIZE: usize> ObjectIdentifier<MAX_SIZE> {
         Ok(ObjectIdentifier::from_front(reader.octets(), start, count))
     }
 
-    /// The contents octets.
+    /// Returns the contents octets.
     pub fn as_bytes(&self) -> &[u8]
         ensures value { result.now ≡ octets_of self.now }
         ensures short { length result.now < 2 ^ 32 }
@@ -127,7 +128,7 @@ impl<const MAX_SIZE: usize> ObjectIdentifier<MAX_SIZE> {
         &self.octets[..self.count.value() as usize]
     }
 
-    /// The identifier, borrowed.
+    /// Borrows the identifier.
     pub fn owned_to_ref(&self) -> ObjectIdentifierRef<'_, MAX_SIZE>
         ensures { borrowed.octets_of result ≡ octets_of self.now }
     {
@@ -136,8 +137,8 @@ impl<const MAX_SIZE: usize> ObjectIdentifier<MAX_SIZE> {
         }
     }
 
-    /// A block that begins with the contents octets, where there are at most eight of them, and
-    /// `MAX_SIZE` is eight or more.
+    /// Returns a block that begins with the contents octets, if there are at most eight of them,
+    /// and `MAX_SIZE` is eight or more.
     #[inline(always)]
     fn as_block(&self) -> Option<[u8; 8]>
         ensures { IfSome result (λ block. (self.now.count ≤ 8)
@@ -166,7 +167,7 @@ impl<const MAX_SIZE: usize> OneTag for ObjectIdentifier<MAX_SIZE> {
     type Marker = ObjectIdentifierTag;
 }
 
-/// An array that begins with these octets.
+/// Creates an array that begins with these octets.
 #[inline(never)]
 fn front_of<const MAX_SIZE: usize>(bytes: &[u8]) -> [u8; MAX_SIZE]
     requires { length bytes.now ≤ MAX_SIZE }
@@ -177,7 +178,7 @@ fn front_of<const MAX_SIZE: usize>(bytes: &[u8]) -> [u8; MAX_SIZE]
     octets
 }
 
-/// Refuses contents octets of which there are none, or too many.
+/// Returns the error for no contents octets, or too many.
 #[cold]
 #[inline(never)]
 pub(crate) fn refuse<'a, R: Source<'a>>(reader: &mut R, header: Header, max: usize) -> Error
@@ -220,7 +221,7 @@ impl<const MAX_SIZE: usize> EncodeValue for ObjectIdentifier<MAX_SIZE> {
         Ok(Length::new(self.as_bytes().len() as u32))
     }
 
-    // A block of eight octets is moved where it holds them all.
+    // If a block of eight octets holds all contents octets, the block is moved.
     fn encode_value<W: Writer>(&self, writer: &mut W) -> Result<(), Error> {
         if let Some(block) = self.as_block() {
             return writer.write_front(block, self.count.value() as usize);
@@ -270,7 +271,7 @@ impl<const MAX_SIZE: usize> Ord for ObjectIdentifier<MAX_SIZE> {
 
     ghost matches_eq = { λ v w. texts_ties (take v.count v.octets) (take w.count w.octets) };
 
-    /// The lexicographic order of the contents octets.
+    /// Compares the contents octets lexicographically.
     fn cmp(&self, other: &ObjectIdentifier<MAX_SIZE>) -> Ordering {
         self.as_bytes().cmp(other.as_bytes())
     }

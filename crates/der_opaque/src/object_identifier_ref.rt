@@ -1,6 +1,6 @@
 //! Borrowed OBJECT IDENTIFIER (X.690 8.19).
 //!
-//! The tag is 06. The contents octets are kept as they stand: they are not split into arcs.
+//! The tag is 06. The contents octets are kept as they are; they are not split into arcs.
 
 ghost use Rattle.std.specs.Prelude.{◌≡◌, ◌↔◌, ◌^◌, ◌<◌, ◌≤◌, nat_eq, if◌then◌else◌, length, refl, IsOk, IfOk, IfErr, false};
 ghost use Rattle.std.proofs.Common.{Ok};
@@ -21,12 +21,13 @@ use der_tlv::{BackWriter, Error, ErrorKind, Header, Length, Reader, Source, Tag,
 use std::alloc::Global;
 use std::fmt;
 
-/// The octets of an OBJECT IDENTIFIER, borrowed: 1 to `MAX_SIZE` of them, and at most 4294967295.
+/// The octets of an OBJECT IDENTIFIER, borrowed. There are 1 to `MAX_SIZE` of them, and at most
+/// 4294967295.
 ///
 /// The octets 55 04 03 are encoded as 06 03 55 04 03.
 ///
 /// # Errors
-/// Reading refuses more than `MAX_SIZE` octets (`ErrorKind::Length`, 7), then none
+/// Decoding fails on more than `MAX_SIZE` octets (`ErrorKind::Length`, 7), then on none
 /// (`ErrorKind::OidMalformed`, 15).
 #[derive(Clone, Copy, PartialEq, Eq, PartialOrd, Ord, Hash)]
 pub struct ObjectIdentifierRef<'a, const MAX_SIZE: usize> {
@@ -40,11 +41,11 @@ impl<'a, const MAX_SIZE: usize> ObjectIdentifierRef<'a, MAX_SIZE> {
     ghost use Rattle.der_opaque.specs.ObjectIdentifier as owned;
     ghost use Rattle.der_opaque.specs.ObjectIdentifierRef.{octets_of};
 
-    /// An identifier of these contents octets.
+    /// Creates an identifier with these contents octets.
     ///
     /// # Errors
-    /// `ErrorKind::OidMalformed` (15) for none; `ErrorKind::Length` (7) for more than `MAX_SIZE` or
-    /// than 4294967295.
+    /// `ErrorKind::OidMalformed` (15) for no octets; `ErrorKind::Length` (7) for more than
+    /// `MAX_SIZE` or more than 4294967295.
     pub fn from_bytes(bytes: &'a [u8]) -> Result<ObjectIdentifierRef<'a, MAX_SIZE>, Error>
         ensures ok { IsOk result ↔ ((0 < length bytes.now) × (length bytes.now ≤ MAX_SIZE)
             × (length bytes.now < 2 ^ 32)) }
@@ -61,7 +62,7 @@ impl<'a, const MAX_SIZE: usize> ObjectIdentifierRef<'a, MAX_SIZE> {
         }
     }
 
-    /// The contents octets.
+    /// Returns the contents octets.
     pub fn as_bytes(self) -> &'a [u8]
         ensures value { result.now ≡ octets_of self.entry }
         ensures short { length result.now < 2 ^ 32 }
@@ -69,7 +70,7 @@ impl<'a, const MAX_SIZE: usize> ObjectIdentifierRef<'a, MAX_SIZE> {
         self.octets
     }
 
-    /// The identifier, copied.
+    /// Copies the identifier.
     pub fn ref_to_owned(self) -> ObjectIdentifier<MAX_SIZE>
         ensures { owned.octets_of result ≡ octets_of self.entry }
     {

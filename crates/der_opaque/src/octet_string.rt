@@ -19,7 +19,7 @@ use der_elem::{
 use der_tlv::{BackWriter, Error, Header, Length, Reader, Source, Tag, Writer};
 use std::alloc::{AllocError, Global};
 
-/// The octets of an OCTET STRING: at most 4294967295 of them.
+/// The octets of an OCTET STRING. There are at most 4294967295 of them.
 ///
 /// The octets 01 02 are encoded as 04 02 01 02.
 #[derive(Debug, Drop, PartialEq, Eq, PartialOrd, Ord)]
@@ -31,7 +31,7 @@ pub struct OctetString {
 impl OctetString {
     ghost use Rattle.der_opaque.specs.OctetString.{octets_of};
 
-    /// A string of these octets.
+    /// Creates a string of these octets.
     ///
     /// # Errors
     /// `ErrorKind::Length` (7) for more than 4294967295 octets.
@@ -44,35 +44,35 @@ impl OctetString {
         }
     }
 
-    /// The octets.
+    /// Returns the octets.
     pub fn as_bytes(&self) -> &[u8]
         ensures { result.now ≡ octets_of self.now }
     {
         &self.octets
     }
 
-    /// The octets, in their vector.
+    /// Returns the octets in their vector.
     pub fn into_bytes(self) -> Vec<u8>
         ensures { result.items ≡ octets_of self }
     {
         self.octets
     }
 
-    /// The number of octets.
+    /// Returns the number of octets.
     pub fn len(&self) -> Length
         ensures { result ≡ length (octets_of self.now) }
     {
         Length::new(self.octets.len() as u32)
     }
 
-    /// Whether it has no octets.
+    /// Returns whether there are no octets.
     pub fn is_empty(&self) -> bool
         ensures { IsTrue result ↔ (octets_of self.now ≡ []) }
     {
         self.as_bytes().is_empty()
     }
 
-    /// The string, borrowed.
+    /// Borrows the string.
     pub fn owned_to_ref(&self) -> OctetStringRef<'_>
         ensures { borrowed.octets_of result ≡ octets_of self.now }
     {
@@ -109,7 +109,7 @@ impl<'a, R: Source<'a>> DecodeValue<'a, R> for OctetString {
     const TAKES_MEMORY: bool = true;
 
     /// # Errors
-    /// (17) on a failed reader; else (1) where memory runs out.
+    /// (17) on a failed reader; else (1) if memory runs out.
     fn decode_value(alloc: Global, reader: &mut R, header: Header) -> Result<OctetString, Error> {
         match OctetStringRef::decode_value(alloc, reader, header) {
             Ok(string) => match string.ref_to_owned(alloc) {

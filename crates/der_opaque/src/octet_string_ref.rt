@@ -23,7 +23,7 @@ use der_elem::{
 use der_tlv::{BackWriter, Error, Header, Length, Reader, Source, Tag, Writer};
 use std::alloc::Global;
 
-/// The octets of an OCTET STRING, borrowed: at most 4294967295 of them.
+/// The octets of an OCTET STRING, borrowed. There are at most 4294967295 of them.
 ///
 /// The octets 01 02 are encoded as 04 02 01 02.
 #[derive(Clone, Copy, Debug, PartialEq, Eq, PartialOrd, Ord, Hash)]
@@ -36,7 +36,7 @@ impl<'a> OctetStringRef<'a> {
     ghost use Rattle.der_opaque.specs.OctetStringRef.{octets_of};
     ghost use Rattle.der_opaque.specs.OctetString as owned;
 
-    /// A string of these octets.
+    /// Creates a string of these octets.
     ///
     /// # Errors
     /// `ErrorKind::Length` (7) for more than 4294967295 octets.
@@ -49,42 +49,42 @@ impl<'a> OctetStringRef<'a> {
         }
     }
 
-    /// The octets.
+    /// Returns the octets.
     pub fn as_bytes(self) -> &'a [u8]
         ensures { result.now ≡ octets_of self.entry }
     {
         self.octets
     }
 
-    /// The number of octets.
+    /// Returns the number of octets.
     pub fn len(self) -> Length
         ensures { result ≡ length (octets_of self.entry) }
     {
         Length::new(self.octets.len() as u32)
     }
 
-    /// Whether it has no octets.
+    /// Returns whether there are no octets.
     pub fn is_empty(self) -> bool
         ensures { IsTrue result ↔ (octets_of self.entry ≡ []) }
     {
         self.as_bytes().is_empty()
     }
 
-    /// The value that the octets encode, under DER.
+    /// Decodes the octets as a value of the type, under DER.
     ///
     /// # Errors
-    /// The first fault of the octets, in reading order; `ErrorKind::TrailingData` (3) where octets
-    /// are left over; `ErrorKind::Memory` (1) where the type takes memory.
+    /// The first error of the octets, in reading order; `ErrorKind::TrailingData` (3) if octets
+    /// are left over; `ErrorKind::Memory` (1) if the type takes memory and none is left.
     pub fn decode_into<T: FromDer<'a>>(self, alloc: Global) -> Result<T, Error>
         ensures { ReadsAll T.Form (octets_of self.entry) result }
     {
         T::from_der(alloc, self.octets)
     }
 
-    /// The octets, copied into a vector.
+    /// Copies the octets into a vector.
     ///
     /// # Errors
-    /// `ErrorKind::Memory` (1) where memory runs out.
+    /// `ErrorKind::Memory` (1) if memory runs out.
     pub fn to_vec(self, alloc: Global) -> Result<Vec<u8>, Error>
         ensures value { IfOk result (λ octets. octets.items ≡ octets_of self.entry) }
         ensures err { IfErr result (λ e. e.kind ≡ kinds.Memory) }
@@ -92,10 +92,10 @@ impl<'a> OctetStringRef<'a> {
         Ok(self.octets.to_vec(alloc)?)
     }
 
-    /// The string, copied.
+    /// Copies the string.
     ///
     /// # Errors
-    /// `ErrorKind::Memory` (1) where memory runs out.
+    /// `ErrorKind::Memory` (1) if memory runs out.
     pub fn ref_to_owned(self, alloc: Global) -> Result<OctetString, Error>
         ensures value { IfOk result (λ s. owned.octets_of s ≡ octets_of self.entry) }
         ensures err { IfErr result (λ e. e.kind ≡ kinds.Memory) }

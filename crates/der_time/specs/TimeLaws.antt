@@ -26,7 +26,7 @@ read_two_digits_of n others h =
     let value : (48 + n / 10 - 48) * 10 + (48 + n % 10 - 48) ≡ n = omega arith in
     rw (digits, value)
 
--- numbers that two digits and a year of four can write
+-- numbers that fit in two digits, and a year that fits in four
 pub record HaveDigits (f : Fields) : Type 0 where
   pub year : f.year < 10000
   pub month : f.month < 100
@@ -80,7 +80,7 @@ read_text_of f d =
     let whole : f.year / 100 * 100 + f.year % 100 ≡ f.year = omega arith in
     rw (read_two_digits_of (f.year / 100) _ century, read_two_digits_of (f.year % 100) _ year, read_octet_of 45 _, read_two_digits_of f.month _ d.month, read_octet_of 45 _, read_two_digits_of f.day _ d.day, read_octet_of 84 _, whole) (read_clock_text_of f d)
 
--- the fields of a time are one
+-- the fields of a time are a valid time
 pub is_time_of : (t : DateTime) → is_time (fields_of t) ≡ true
 unfolding is_time
 is_time_of t =
@@ -115,7 +115,7 @@ utc_of t most = rw (read_utc_of (fields_of t) (have_digits t) (omega (arith, t.y
 pub utc_at : (t : DateTime) (octets : List ℕ) → t.year < 2050 → utc_contents (fields_of t) ≡ octets → utc_or_fault octets ≡ Ok octets
 utc_at t octets most e = ap utc_or_fault (sym e) ∙ utc_of t most ∙ ap (λ o. Ok o) e
 
--- octets with a fault are those of no time
+-- octets with an error are not the contents octets of any time
 pub generalized_refused : (t : DateTime) (octets : List ℕ) (kind : ErrorKind) → generalized_or_fault octets ≡ Err kind → octets ≡ generalized_contents (fields_of t) → ⊥
 generalized_refused t octets kind fault own = let read = generalized_at t octets (sym own) in cc
 
@@ -131,12 +131,12 @@ pub utc_injective : (v w : DateTime) → v.year < 2050 → w.year < 2050 → utc
 utc_injective v w f g e =
     same_Some _ _ (sym (read_utc_of (fields_of v) (have_digits v) (omega (arith, v.year_in.0)) f) ∙ ap read_utc e ∙ read_utc_of (fields_of w) (have_digits w) (omega (arith, w.year_in.0)) g)
 
--- and so no two have the same text
+-- no two times have the same text
 pub text_injective : (v w : DateTime) → time_text (fields_of v) ≡ time_text (fields_of w) → fields_of v ≡ fields_of w
 text_injective v w e =
     same_Some _ _ (sym (read_text_of (fields_of v) (have_digits v)) ∙ ap read_text e ∙ read_text_of (fields_of w) (have_digits w))
 
--- a text of which no six numbers are read, or six that are no time, is that of no time
+-- a text is not that of any time if no six numbers are read from it, or six that are not a time
 pub text_refused : (t : DateTime) (text : List ℕ) → option_and_then if_time (read_text text) ≡ None → text ≡ time_text (fields_of t) → ⊥
 text_refused t text none own =
     let read : read_text text ≡ Some (fields_of t) = ap read_text own ∙ read_text_of (fields_of t) (have_digits t) in
@@ -166,11 +166,11 @@ ascii_text f d =
     (ascii_cons 84 _ (lit< tt) (ascii_two_digits f.hour _ d.hour (ascii_cons 58 _ (lit< tt) (ascii_two_digits f.minutes _ d.minutes
     (ascii_cons 58 _ (lit< tt) (ascii_two_digits f.seconds _ d.seconds (ascii_cons 90 [] (lit< tt) (record { below = λ i. lit< tt })))))))))))))
 
--- so the text of a time is UTF-8
+-- the text of a time is UTF-8
 pub text_utf8 : (t : DateTime) → IsUtf8 (time_text (fields_of t))
 text_utf8 t = IsUtf8-from_ascii _ (ascii_text (fields_of t) (have_digits t)).below
 
--- the octets of a time are so many
+-- the number of contents octets of a time
 pub length_generalized : (f : Fields) → length (generalized_contents f) ≡ 15
 unfolding generalized_contents after_year clock_contents two_digits
 length_generalized f = refl
@@ -179,7 +179,7 @@ pub length_utc : (f : Fields) → length (utc_contents f) ≡ 13
 unfolding utc_contents after_year clock_contents two_digits
 length_utc f = refl
 
--- the faults are of the octets
+-- the errors are errors of the octets
 time_of_octets : (kind : ErrorKind) (octets : List ℕ) (read : Option Fields) → IsTrue (is_of_octets kind) → IsOfOctets (octets_or kind octets read)
 time_of_octets kind octets None h = h
 time_of_octets kind octets (Some f) h = tt

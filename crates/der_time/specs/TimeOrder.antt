@@ -22,7 +22,7 @@ abbrev pub fields_eq : DateTime → DateTime → Bool
 fields_eq v w =
     (v.year == w.year) && ((v.month == w.month) && ((v.day == w.day) && ((v.hour == w.hour) && ((v.minutes == w.minutes) && (v.seconds == w.seconds)))))
 
--- two digits are in the order of their numbers, and then what follows decides
+-- two digits are in the order of their numbers, and then the octets after them decide
 order_of_digits : (a b : ℕ) → ordering_then (nat_cmp (48 + a / 10) (48 + b / 10)) (nat_cmp (48 + a % 10) (48 + b % 10)) ≡ nat_cmp a b
 order_of_digits a b = grind (arith, nat_tests)
 
@@ -31,7 +31,7 @@ unfolding two_digits
 lex_two_digits a b x y =
     then_assoc (nat_cmp (48 + a / 10) (48 + b / 10)) (nat_cmp (48 + a % 10) (48 + b % 10)) (lex x y) ∙ ap (λ o. ordering_then o (lex x y)) (order_of_digits a b)
 
--- and so are numbers of four digits
+-- numbers of four digits are in the order of their pairs of digits
 order_of_pairs : (a b : ℕ) → ordering_then (nat_cmp (a / 100) (b / 100)) (nat_cmp (a % 100) (b % 100)) ≡ nat_cmp a b
 order_of_pairs a b = grind (arith, nat_tests)
 
@@ -40,7 +40,7 @@ lex_four_digits a b x y =
     lex_two_digits (a / 100) (b / 100) _ _ ∙ ap (ordering_then (nat_cmp (a / 100) (b / 100))) (lex_two_digits (a % 100) (b % 100) x y)
     ∙ then_assoc (nat_cmp (a / 100) (b / 100)) (nat_cmp (a % 100) (b % 100)) (lex x y) ∙ ap (λ o. ordering_then o (lex x y)) (order_of_pairs a b)
 
--- what comes after the year is in the order of month, day, hour, minutes and seconds
+-- the octets after the year are in the order of month, day, hour, minutes and seconds
 abbrev pub after_year_cmp : Fields → Fields → Ordering
 after_year_cmp f g =
     ordering_then (nat_cmp f.month g.month) (ordering_then (nat_cmp f.day g.day) (ordering_then (nat_cmp f.hour g.hour) (ordering_then (nat_cmp f.minutes g.minutes) (nat_cmp f.seconds g.seconds))))

@@ -1,4 +1,4 @@
--- Which six numbers are a time, and their octets and text (X.680 46.3, 47.3; X.690 11.7, 11.8; RFC 5280 4.1.2.5).
+-- Six numbers that are a time, and their octets and text (X.680 46.3, 47.3; X.690 11.7, 11.8; RFC 5280 4.1.2.5).
 use Rattle.std.specs.Prelude.{ℕ, ◌/◌, ◌%◌, ◌&&◌, nat_le, Bool, List, [], ◌∷◌, ◌++◌, pos}
 use Rattle.jiff_core.specs.Calendar.{days_in_month}
 use Rattle.der_time.specs.declared.fields.Fields.{Fields}
@@ -15,7 +15,7 @@ is_time f =
 unfoldable pub clock_contents : Fields → List ℕ
 clock_contents f = two_digits f.hour ++ (two_digits f.minutes ++ (two_digits f.seconds ++ 90 ∷ []))
 
--- month and day before them
+-- month and day, and then the clock
 unfoldable pub after_year : Fields → List ℕ
 after_year f = two_digits f.month ++ (two_digits f.day ++ clock_contents f)
 

@@ -11,11 +11,11 @@ use Rattle.der_tlv.specs.declared.tag.Tag.TheVariants as tags
 use Rattle.der_time.specs.declared.date_time.DateTime.{DateTime}
 use Rattle.der_time.specs.declared.utc_time.UtcTime.{UtcTime}
 
--- the day number of its date, which isn't negative: 0 for 1970-01-01
+-- the day number of its date, which is not negative: 0 for 1970-01-01
 unfoldable pub day_number : DateTime → ℕ
 day_number t = unsigned_abs (days_from_civil (pos t.year) t.month t.day)
 
--- the seconds of its day before it
+-- the seconds of its day that are before it
 abbrev pub second_of_day : DateTime → ℕ
 second_of_day t = t.hour * 3600 + t.minutes * 60 + t.seconds
 
@@ -35,7 +35,7 @@ LastsSeconds seconds d = as_nanos d ≡ seconds * 1_000_000_000
 abbrev pub whole_seconds : Duration → ℕ
 whole_seconds d = as_nanos d / 1_000_000_000
 
--- the time after the whole seconds of a duration, or this error of a duration longer than that of the last time
+-- the time after the whole seconds of a duration, or this error for a duration longer than that of the last time
 abbrev pub IsTimeAfter : {T : Type 0} → (T → DateTime) → ErrorKind → Duration → Result T Error → Type 0
 IsTimeAfter date_time kind d (Ok t) = (unix_seconds (date_time t) ≡ whole_seconds d) × (as_nanos d ≤ last_second * 1_000_000_000)
 IsTimeAfter date_time kind d (Err e) = (e.kind ≡ kind) × (last_second * 1_000_000_000 < as_nanos d)
@@ -50,7 +50,7 @@ pub record IsOnDate (d : Date) (t : DateTime) : Type 0 where
 abbrev pub end_of_2049 : ℕ
 end_of_2049 = 2_524_608_000
 
--- the UTCTime after the whole seconds of a duration; (14) of a duration longer than that of the last time, else (13) from 2050 on
+-- the UTCTime after the whole seconds of a duration; (14) for a duration longer than that of the last time, else (13) from 2050 on
 abbrev pub IsUtcTimeAfter : Duration → Result UtcTime Error → Type 0
 IsUtcTimeAfter d (Ok t) = (unix_seconds t.date_time ≡ whole_seconds d) × (whole_seconds d < end_of_2049)
 IsUtcTimeAfter d (Err e) =

@@ -1,4 +1,4 @@
--- Times, days and seconds follow one another in one order.
+-- Times, days and seconds are in one order.
 use Rattle.std.proofs.Common.{◌≡◌, ℕ, ◌+◌, ◌*◌, ◌<◌, ◌≤◌, refl, sym, ap, ◌∙◌, arith, ℤ, pos, negsuc, ◌≤ℤ◌, unsigned_abs, inl, inr, lit≤}
 use Rattle.std.specs.Ordering.{ordering_then, nat_cmp}
 use Rattle.std.proofs.lemmas.Bool.{cases_order}
@@ -21,12 +21,12 @@ use Rattle.der_time.specs.TimeLaws.{generalized_injective}
 use Rattle.der_time.specs.TimeOrder.{fields_cmp, ord_is_contents_ord}
 use Rattle.der_time.specs.UnixTime.{day_number, second_of_day, unix_seconds, IsOnDate, end_of_2049, last_second}
 
--- a date from day 0 on is of the year 1970 or a later one
+-- a date from day 0 on is in 1970 or later
 pub year_from_day : (d : Date) → pos 0 ≤ℤ epoch_day d → pos 1970 ≤ℤ d.year
 year_from_day d h =
     by_lt_z d.year (pos 1970) (λ lt. absurd (omega (arith, signed_arith, day_count-epoch, days_from_civil-day_count d.year d.month d.day, day_count-lt_year d.year d.month d.day (pos 1970) 1 1 (civil d) (lit≤ tt) lt))) (λ le. le)
 
--- 1 January 1970 is no later than any day from then on
+-- 1 January of a year is no later than any day of that year
 first_of_year_le : (y : ℤ) (m d : ℕ) → 1 ≤ d → day_count y 1 1 ≤ day_count y m d
 first_of_year_le y m d h = omega (arith, day_count-day_of_year y m d h)
 
@@ -38,7 +38,7 @@ from_epoch y h =
       | inr (inr gt) ↦ omega (arith, day_count-epoch, day_count-later_year (pos 1970) (pos y) (omega (arith, signed_arith)) (omega (arith, signed_arith, gt)))
     ]
 
--- a date of 1970 and later is day 0 or a later one
+-- a date in 1970 or later is day 0 or later
 pub day_not_negative : (t : DateTime) → pos 0 ≤ℤ days_from_civil (pos t.year) t.month t.day
 day_not_negative t =
     omega (arith, signed_arith, days_from_civil-day_count (pos t.year) t.month t.day, first_of_year_le (pos t.year) t.month t.day t.day_in.0, from_epoch t.year t.year_in.0)
@@ -58,7 +58,7 @@ unsigned_year_in d h =
     let in_range = d.year_in in
     (omega (arith, signed_arith), omega (arith, signed_arith))
 
--- so its day number is jiff's
+-- the day number of a time is that of jiff
 pub days_are : (t : DateTime) → days_from_civil (pos t.year) t.month t.day ≡ pos (day_number t)
 unfolding day_number
 days_are t = own_abs _ (day_not_negative t)
@@ -66,7 +66,7 @@ days_are t = own_abs _ (day_not_negative t)
 year_of : (t : DateTime) → IsYear (pos t.year)
 year_of t = (omega (arith, signed_arith, t.year_in), omega (arith, signed_arith, t.year_in))
 
--- the date as jiff has it
+-- the date in jiff
 pub date_of : DateTime → Date
 date_of t = record {
   year = pos t.year;
@@ -121,7 +121,7 @@ chronological v w =
     ∙ ap (λ o. ordering_then o clock) (date_cmp v w) ∙ ap (ordering_then (nat_cmp (day_number v) (day_number w))) (clock_cmp v w)
     ∙ days_and_seconds (day_number v) (day_number w) (second_of_day v) (second_of_day w) (second_of_day_bound v) (second_of_day_bound w)
 
--- and so two times with the same seconds are one
+-- two times with the same seconds are equal
 pub same_seconds : (v w : DateTime) → unix_seconds v ≡ unix_seconds w → fields_of v ≡ fields_of w
 same_seconds v w e =
     generalized_injective v w (lex-equal (time_contents v) (time_contents w) (sym (ord_is_contents_ord v w) ∙ chronological v w ∙ nat_cmp-same (unix_seconds v) (unix_seconds w) e))
@@ -143,7 +143,7 @@ seconds_on d t n s on e f =
 first_of_2050 : day_count (pos 2050) 1 1 ≡ 4_401_173
 first_of_2050 = day_count-early (pos 2050) 12049 1 1 refl (omega arith) (omega arith) (omega arith)
 
--- the times of 2050 and later years are those from its first second on
+-- times in 2050 or later are at or after the first second of 2050
 pub from_2050 : (t : DateTime) → 2049 < t.year → end_of_2049 ≤ unix_seconds t
 from_2050 t h =
     let first : 4_401_173 ≤ day_count (pos t.year) 1 1 = elim (cases_order t.year 2050) [

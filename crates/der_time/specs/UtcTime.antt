@@ -1,4 +1,4 @@
--- What contracts see of a UTCTime, and what octets are read as one.
+-- The value of a UTCTime that contracts see, and the octets that are read as one.
 use Rattle.std.specs.Prelude.{◌≡◌, ℕ, ◌<◌, List, Result, Ok, Err}
 use Rattle.der_tlv.specs.declared.error.ErrorKind.TheVariants as kinds
 use Rattle.der_tlv.specs.declared.error.Error.{Error}
@@ -20,6 +20,6 @@ abbrev pub TakesTime : DateTime → Result UtcTime Error → Type 0
 TakesTime time (Ok t) = t.date_time ≡ time
 TakesTime time (Err e) = (e.kind ≡ kinds.Value tags.UtcTime) × (2049 < time.year)
 
--- what decoding contents octets after a tag as a UTCTime answers
+-- the result of decoding contents octets after a tag as a UTCTime
 abbrev pub DecodesUtcTime : Tag → List ℕ → Result UtcTime Error → Type 0
 DecodesUtcTime = DecodesOwnAs tags.UtcTime utc_time_contents (λ time. Unit {0}) parse_utc

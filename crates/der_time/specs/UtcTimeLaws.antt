@@ -21,7 +21,7 @@ pub utc_eq_is_contents_eq : (v w : UtcTime) → Unit {0} → (IsTrue (fields_eq 
 utc_eq_is_contents_eq v w _ =
     (λ e. ap utc_contents (same_fields v.date_time w.date_time e), λ e. fields_eq_of v.date_time w.date_time (utc_injective v.date_time w.date_time (omega (arith, v.to_2049)) (omega (arith, w.to_2049)) e))
 
--- where the last two digits of years from 1970 to 2049 are the same, the years are
+-- years from 1970 to 2049 are the same if their last two digits are
 same_century : (a b : ℕ) → 1970 ≤ a → a ≤ 2049 → 1970 ≤ b → b ≤ 2049 → ordering_then (nat_cmp (a % 100) (b % 100)) (nat_cmp a b) ≡ nat_cmp (a % 100) (b % 100)
 same_century a b f g h i = grind (arith, nat_tests)
 

@@ -25,15 +25,15 @@ use std::{fmt, str};
 /// The seconds from 1970-01-01T00:00:00Z to 9999-12-31T23:59:59Z.
 const LAST_SECOND: u64 = 253_402_300_799;
 
-/// A second from 1970-01-01T00:00:00Z to 9999-12-31T23:59:59Z: a true date and a time of day.
+/// A second from 1970-01-01T00:00:00Z to 9999-12-31T23:59:59Z: a valid date and a time of day.
 ///
 /// It is encoded as a GeneralizedTime: 1991-05-06T23:45:40Z as 18 0F and the octets of
-/// `19910506234540Z`. Reading, writing and the order are those of a `GeneralizedTime`.
+/// `19910506234540Z`. Decoding, encoding and the order are those of a `GeneralizedTime`.
 ///
 /// # Errors
-/// Reading refuses 15 octets that end with `Z` and begin with two digits, of which the third and
-/// fourth are not both digits (`ErrorKind::DateTime`, 14), and all others that are not such octets
-/// of a true time (`ErrorKind::Value`, 13).
+/// Decoding fails on 15 octets that end with `Z` and begin with two digits, if the third and
+/// fourth octets are not both digits (`ErrorKind::DateTime`, 14). It fails on all other octets
+/// that are not those of a valid time (`ErrorKind::Value`, 13).
 #[derive(Clone, Copy, Debug, PartialEq, Eq, PartialOrd, Ord)]
 pub struct DateTime {
     /// The year, from 1970 to 9999.
@@ -71,11 +71,11 @@ impl DateTime {
         seconds: 59,
     };
 
-    /// The time with these fields.
+    /// Creates the time with these fields.
     ///
     /// # Errors
-    /// `ErrorKind::DateTime` (14) for a year before 1970 or after 9999, and where the calendar has
-    /// no such date or the day no such second. There is no leap second.
+    /// `ErrorKind::DateTime` (14) for a year before 1970 or after 9999, and if the calendar has
+    /// no such date or the day has no such second. There is no leap second.
     pub fn new(
         year: u16,
         month: u8,
@@ -107,53 +107,53 @@ impl DateTime {
         }
     }
 
-    /// The year, from 1970 to 9999.
+    /// Returns the year, from 1970 to 9999.
     pub fn year(&self) -> u16
         ensures { result ≡ self.now.year }
     {
         self.year
     }
 
-    /// The month, from 1 to 12.
+    /// Returns the month, from 1 to 12.
     pub fn month(&self) -> u8
         ensures { result ≡ self.now.month }
     {
         self.month
     }
 
-    /// The day of the month, from 1.
+    /// Returns the day of the month, from 1.
     pub fn day(&self) -> u8
         ensures { result ≡ self.now.day }
     {
         self.day
     }
 
-    /// The hour, from 0 to 23.
+    /// Returns the hour, from 0 to 23.
     pub fn hour(&self) -> u8
         ensures { result ≡ self.now.hour }
     {
         self.hour
     }
 
-    /// The minutes, from 0 to 59.
+    /// Returns the minutes, from 0 to 59.
     pub fn minutes(&self) -> u8
         ensures { result ≡ self.now.minutes }
     {
         self.minutes
     }
 
-    /// The seconds, from 0 to 59.
+    /// Returns the seconds, from 0 to 59.
     pub fn seconds(&self) -> u8
         ensures { result ≡ self.now.seconds }
     {
         self.seconds
     }
 
-    /// The time at which the whole seconds of this duration since 1970-01-01T00:00:00Z are over. A
+    /// Returns the time after the whole seconds of this duration since 1970-01-01T00:00:00Z. A
     /// fraction of a second is dropped.
     ///
     /// # Errors
-    /// `ErrorKind::DateTime` (14) for more than 253402300799 seconds, also by less than a second.
+    /// `ErrorKind::DateTime` (14) for more than 253402300799 seconds, even by less than a second.
     pub fn from_unix_duration(unix_duration: Duration) -> Result<DateTime, Error>
         ensures { IsTimeAfter (λ t. t) kinds.DateTime unix_duration result }
     {
@@ -165,7 +165,7 @@ impl DateTime {
         Ok(DateTime::of_unix_seconds(seconds))
     }
 
-    /// The time at which so many seconds since 1970-01-01T00:00:00Z are over.
+    /// Returns the time after this number of seconds since 1970-01-01T00:00:00Z.
     fn of_unix_seconds(seconds: u64) -> DateTime
         requires { seconds ≤ last_second }
         ensures { unix_seconds result ≡ seconds }
@@ -183,7 +183,7 @@ impl DateTime {
         }
     }
 
-    /// The time on this date, of 1970 or later.
+    /// Returns the time on this date, which is in 1970 or later.
     fn at(date: civil::Date, hour: u8, minutes: u8, seconds: u8) -> DateTime
         requires from_1970 { pos 0 ≤ℤ epoch_day date }
         requires hour { hour ≤ 23 }
@@ -202,7 +202,7 @@ impl DateTime {
         }
     }
 
-    /// The date.
+    /// Returns the date.
     fn date(&self) -> civil::Date
         ensures year { result.year ≡ pos self.now.year }
         ensures month { result.month ≡ self.now.month }
@@ -215,8 +215,8 @@ impl DateTime {
         }
     }
 
-    /// The duration since 1970-01-01T00:00:00Z: 86400 seconds for each day, and those of the time of
-    /// day.
+    /// Returns the duration since 1970-01-01T00:00:00Z: 86400 seconds for each day, and the
+    /// seconds of the time of day.
     #[tactic(auto, using(crate::specs::UnixTimeLaws::most_seconds), unfolding(crate::specs::UnixTime::day_number))]
     pub fn unix_duration(&self) -> Duration
         ensures seconds { LastsSeconds (unix_seconds self.now) result }
@@ -227,7 +227,7 @@ impl DateTime {
         Duration::from_secs(day as u64 * 86400 + second)
     }
 
-    /// The time with these contents octets of a GeneralizedTime, or their fault.
+    /// Creates the time with these contents octets of a GeneralizedTime, or returns their error.
     #[tactic(auto, unfolding(crate::specs::TimeReading::generalized_or_fault))]
     pub(crate) fn of_contents(octets: &[u8]) -> Result<DateTime, ErrorKind>
         ensures { ReadAs time_contents generalized_or_fault octets.now result }
@@ -241,7 +241,7 @@ impl DateTime {
         }
     }
 
-    /// The contents octets of a GeneralizedTime.
+    /// Returns the contents octets of a GeneralizedTime.
     #[tactic(auto, unfolding(crate::specs::Times::generalized_contents, crate::specs::Times::after_year, crate::specs::Times::clock_contents, crate::specs::Digits::two_digits))]
     pub(crate) fn contents(&self) -> [u8; 15]
         ensures { result ≡ time_contents self.now }
@@ -256,7 +256,7 @@ impl DateTime {
         [c0, c1, y0, y1, m0, m1, d0, d1, h0, h1, i0, i1, s0, s1, b'Z']
     }
 
-    /// The text: `2001-01-02T12:13:14Z`.
+    /// Returns the text: `2001-01-02T12:13:14Z`.
     #[tactic(auto, unfolding(crate::specs::Times::time_text, crate::specs::Times::clock_text, crate::specs::Digits::two_digits))]
     fn text(&self) -> [u8; 20]
         ensures { result ≡ date_time_text self.now }
@@ -283,7 +283,7 @@ impl FromStr for DateTime {
     ghost from_str_gives = { λ s r. ParsesText s r × ParsesBack s r };
 
     /// # Errors
-    /// (14) for any text but one that `Display` writes.
+    /// (14) for any text that `Display` does not write.
     fn from_str(text: &str) -> Result<DateTime, Error> {
         let Some(fields) = read_text(text.as_bytes()) else {
             return Err(Error::from_kind(ErrorKind::DateTime));

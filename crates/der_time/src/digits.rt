@@ -4,7 +4,7 @@ ghost use Rattle.std.specs.Prelude.{◌≡◌, ◌<◌, ◌∷◌, ◌++◌, Mat
 ghost use Rattle.der_time.specs.Digits.{two_digits, read_two_digits};
 ghost use Rattle.der_time.specs.TimeReading.{read_octet};
 
-/// The number of two digits at the front, and the octets after them.
+/// Reads a number of two digits at the front, and returns it with the octets after them.
 #[tactic(auto, unfolding(crate::specs::Digits::read_two_digits, crate::specs::Digits::two_digits))]
 pub fn read_two_digits(octets: &[u8]) -> Option<(u8, &[u8])>
     ensures value { MatchOption result (read_two_digits octets.now ≡ None) (λ p.
@@ -20,7 +20,7 @@ pub fn read_two_digits(octets: &[u8]) -> Option<(u8, &[u8])>
     }
 }
 
-/// A number below 100, in two digits.
+/// Writes a number below 100 in two digits.
 #[tactic(auto, unfolding(crate::specs::Digits::two_digits))]
 pub fn two_digits(number: u8) -> [u8; 2]
     requires { number < 100 }
@@ -29,7 +29,7 @@ pub fn two_digits(number: u8) -> [u8; 2]
     [b'0' + number / 10, b'0' + number % 10]
 }
 
-/// What follows this octet at the front.
+/// Returns the octets after this octet at the front.
 #[tactic(auto, unfolding(crate::specs::TimeReading::read_octet))]
 pub fn read_octet<'a>(octet: u8, octets: &'a [u8]) -> Option<&'a [u8]>
     ensures value { MatchOption result (read_octet octet octets.now ≡ None) (λ others.

@@ -7,7 +7,7 @@ use crate::const_range::const_contains_u8;
 use crate::date_time::DateTime;
 use jiff_core::civil;
 
-/// A year, a month, a day of the month, and a time of day, as numbers that may be none.
+/// A year, a month, a day of the month, and a time of day. The numbers may be no valid time.
 #[derive(Clone, Copy)]
 pub struct Fields {
     pub year: u16,
@@ -21,7 +21,8 @@ pub struct Fields {
 impl Fields {
     ghost use Rattle.der_time.specs.DateTime.{fields_of};
 
-    /// The time that these are, from 1970 to 9999 and with no leap second.
+    /// Returns the time with these numbers if it is valid, from 1970 to 9999 and with no leap
+    /// second.
     #[tactic(auto, unfolding(crate::specs::Times::is_time))]
     pub fn to_date_time(self) -> Option<DateTime>
         ensures { MatchOption result (is_time self ≡ false) (λ t. fields_of t ≡ self) }

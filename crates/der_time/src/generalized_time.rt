@@ -1,7 +1,7 @@
 //! GeneralizedTime (X.680 46, X.690 11.7, RFC 5280 4.1.2.5.2).
 //!
-//! The tag is 18 (hexadecimal). The contents octets are 15: the year in four digits, then month,
-//! day, hour, minutes and seconds in two digits each, then `Z`.
+//! The tag is 18 (hexadecimal). There are 15 contents octets: the year in four digits, then
+//! month, day, hour, minutes and seconds in two digits each, then `Z`.
 
 ghost use Rattle.std.specs.Prelude.{◌≡◌, refl, false};
 ghost use Rattle.der_tlv.specs.declared.error.ErrorKind.TheVariants as kinds;
@@ -30,9 +30,9 @@ use std::time::Duration;
 /// 1991-05-06T23:45:40Z is encoded as 18 0F and the octets of `19910506234540Z`.
 ///
 /// # Errors
-/// Reading refuses 15 octets that end with `Z` and begin with two digits, of which the third and
-/// fourth are not both digits (`ErrorKind::DateTime`, 14), and all others that are not such octets
-/// of a true time (`ErrorKind::Value`, 13).
+/// Decoding fails on 15 octets that end with `Z` and begin with two digits, if the third and
+/// fourth octets are not both digits (`ErrorKind::DateTime`, 14). It fails on all other octets
+/// that are not those of a valid time (`ErrorKind::Value`, 13).
 #[derive(Clone, Copy, Debug, PartialEq, Eq, PartialOrd, Ord)]
 pub struct GeneralizedTime {
     /// The time.
@@ -40,25 +40,25 @@ pub struct GeneralizedTime {
 }
 
 impl GeneralizedTime {
-    /// This time as a `GeneralizedTime`.
+    /// Creates a `GeneralizedTime` from a time.
     pub fn from_date_time(date_time: DateTime) -> GeneralizedTime
         ensures { result.date_time ≡ date_time }
     {
         GeneralizedTime { date_time }
     }
 
-    /// This time as a `DateTime`.
+    /// Returns this time as a `DateTime`.
     pub fn to_date_time(&self) -> DateTime
         ensures { result ≡ self.now.date_time }
     {
         self.date_time
     }
 
-    /// The time at which the whole seconds of this duration since 1970-01-01T00:00:00Z are over. A
+    /// Returns the time after the whole seconds of this duration since 1970-01-01T00:00:00Z. A
     /// fraction of a second is dropped.
     ///
     /// # Errors
-    /// `ErrorKind::Value` (13) for more than 253402300799 seconds, also by less than a second.
+    /// `ErrorKind::Value` (13) for more than 253402300799 seconds, even by less than a second.
     pub fn from_unix_duration(unix_duration: Duration) -> Result<GeneralizedTime, Error>
         ensures { IsTimeAfter
             (λ t. t.date_time) (kinds.Value tags.GeneralizedTime) unix_duration result }
@@ -69,7 +69,7 @@ impl GeneralizedTime {
         }
     }
 
-    /// The duration since 1970-01-01T00:00:00Z.
+    /// Returns the duration since 1970-01-01T00:00:00Z.
     pub fn to_unix_duration(&self) -> Duration
         ensures { LastsSeconds (unix_seconds self.now.date_time) result }
     {
@@ -180,7 +180,7 @@ impl<'a> TryFrom<AnyRef<'a>> for GeneralizedTime {
         (borrowed_any.contents_of a) r };
 
     /// # Errors
-    /// (4) with no expected tag for another tag; (14) or (13) for octets that are no time.
+    /// (4) with no expected tag for another tag; (14) or (13) for octets that are not a time.
     fn try_from(any: AnyRef<'a>) -> Result<GeneralizedTime, Error> {
         if !any.tag().equals(Tag::GeneralizedTime) {
             return Err(Error::from_kind(any.tag().unexpected_error(None)));
@@ -199,7 +199,7 @@ impl<'a> TryFrom<&'a Any> for GeneralizedTime {
         (owned_any.contents_of a.now) r };
 
     /// # Errors
-    /// (4) with no expected tag for another tag; (14) or (13) for octets that are no time.
+    /// (4) with no expected tag for another tag; (14) or (13) for octets that are not a time.
     fn try_from(any: &'a Any) -> Result<GeneralizedTime, Error> {
         GeneralizedTime::try_from(any.to_ref())
     }

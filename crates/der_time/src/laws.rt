@@ -14,22 +14,21 @@ use der_elem::FixedTag;
 use der_tlv::{Error, Tag};
 use std::cmp::Ordering;
 
-/// The order of two times, which is that of their seconds.
+/// Compares two times; the order is that of their seconds.
 pub fn chronological(one: &DateTime, other: &DateTime) -> Ordering
     ensures { result ≡ nat_cmp (unix_seconds one.now) (unix_seconds other.now) }
 {
     one.cmp(other)
 }
 
-/// The order of two times, which is that of their seconds.
+/// Compares two times; the order is that of their seconds.
 pub fn utc_chronological(one: &UtcTime, other: &UtcTime) -> Ordering
     ensures { result ≡ nat_cmp (unix_seconds one.now.date_time) (unix_seconds other.now.date_time) }
 {
     one.cmp(other)
 }
 
-/// Whether two times are equal, which is whether they are the same second, and whether they have
-/// the same text.
+/// Returns whether two times are equal. Equal times are the same second and have the same text.
 pub fn equal_times(one: &DateTime, other: &DateTime) -> bool
     ensures seconds { IsTrue result ↔ (unix_seconds one.now ≡ unix_seconds other.now) }
     ensures text { IsTrue result ↔ (date_time_text one.now ≡ date_time_text other.now) }
@@ -37,14 +36,14 @@ pub fn equal_times(one: &DateTime, other: &DateTime) -> bool
     one == other
 }
 
-/// The last time, whose seconds are the last that a duration may have.
+/// Returns the last time, whose seconds are the most that a duration may have.
 pub fn last_time() -> DateTime
     ensures { unix_seconds result ≡ last_second }
 {
     DateTime::INFINITY
 }
 
-/// The time that the duration of a time gives, which is that time.
+/// Returns the time that the duration of a time gives, which is that time.
 pub fn from_own_duration(time: &DateTime) -> Result<DateTime, Error>
     ensures { IsOkAnd result (λ t. fields_of t ≡ fields_of time.now) }
 {
@@ -54,7 +53,8 @@ pub fn from_own_duration(time: &DateTime) -> Result<DateTime, Error>
     }
 }
 
-/// The number of days from 1970-01-01 to the date of a time: that of the calendar, which has a sign.
+/// Returns the number of days from 1970-01-01 to the date of a time. It equals the calendar's day
+/// number, which has a sign.
 pub fn days_since_1970(time: &DateTime) -> u64
     ensures number { result ≡ day_number time.now }
     ensures calendar { pos result
@@ -63,7 +63,7 @@ pub fn days_since_1970(time: &DateTime) -> u64
     time.unix_duration().as_secs() / 86400
 }
 
-/// The tags of the types (X.680 8.6): of `DateTime`, which is read and written as a
+/// Returns the tags of the types (X.680 8.6): of `DateTime`, which is encoded and decoded as a
 /// GeneralizedTime, `GeneralizedTime` and `UtcTime`.
 pub fn universal_tags() -> [Tag; 3]
     ensures { result ≡ tags.GeneralizedTime ∷ tags.GeneralizedTime ∷ tags.UtcTime ∷ [] }
@@ -71,14 +71,14 @@ pub fn universal_tags() -> [Tag; 3]
     [DateTime::TAG, GeneralizedTime::TAG, UtcTime::TAG]
 }
 
-/// A UTCTime has thirteen contents octets (RFC 5280 4.1.2.5.1).
+/// Returns the number of contents octets of a UTCTime, which is thirteen (RFC 5280 4.1.2.5.1).
 pub fn utc_length() -> usize
     ensures { result ≡ 13 }
 {
     UtcTime::LENGTH
 }
 
-/// The last year of a UTCTime (RFC 5280 4.1.2.5.1).
+/// Returns the last year of a UTCTime (RFC 5280 4.1.2.5.1).
 pub fn last_utc_year() -> u16
     ensures { result ≡ 2049 }
 {

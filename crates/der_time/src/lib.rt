@@ -1,4 +1,4 @@
-//! GeneralizedTime and UTCTime as RFC 5280 4.1.2.5 has them (X.680 46, 47; X.690 11.7, 11.8).
+//! GeneralizedTime and UTCTime as in RFC 5280 4.1.2.5 (X.680 46, 47; X.690 11.7, 11.8).
 //!
 //! ```rust
 //! match UtcTime::from_der(rt.alloc(), "\u{17}\u{d}260131235959Z".as_bytes()) {

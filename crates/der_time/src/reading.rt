@@ -1,4 +1,4 @@
-//! The six numbers that contents octets have as digits.
+//! Reading of the six numbers of a time from digits in contents octets.
 
 ghost use Rattle.std.specs.Prelude.{◌≡◌, ◌<◌, ◌/◌, ◌%◌, ◌*◌, ◌+◌, ◌++◌, IfSome, ◌^◌};
 ghost use Rattle.der_time.specs.Times.{after_year, clock_contents, generalized_contents, utc_contents};
@@ -8,7 +8,7 @@ use crate::digits::read_two_digits;
 use crate::fields::Fields;
 use der_tlv::{ErrorKind, Tag};
 
-/// Hour, minutes and seconds in two digits each, and Z at the end.
+/// Reads hour, minutes and seconds in two digits each, and Z at the end.
 #[tactic(auto, unfolding(crate::specs::TimeReading::read_clock, crate::specs::Times::clock_contents))]
 fn read_clock(year: u16, month: u8, day: u8, octets: &[u8]) -> Option<Fields>
     ensures value { result ≡ spec.read_clock year month day octets.now }
@@ -31,7 +31,7 @@ fn read_clock(year: u16, month: u8, day: u8, octets: &[u8]) -> Option<Fields>
     })
 }
 
-/// Month and day before them.
+/// Reads month and day, and then the clock.
 #[tactic(auto, unfolding(crate::specs::TimeReading::read_after_year, crate::specs::Times::after_year))]
 fn read_after_year(year: u16, octets: &[u8]) -> Option<Fields>
     ensures value { result ≡ spec.read_after_year year octets.now }
@@ -43,7 +43,7 @@ fn read_after_year(year: u16, octets: &[u8]) -> Option<Fields>
     read_clock(year, month, day, octets)
 }
 
-/// The numbers of a GeneralizedTime: a year of four digits before them.
+/// Reads the numbers of a GeneralizedTime: a year of four digits, and then the rest.
 #[tactic(auto, unfolding(crate::specs::TimeReading::read_generalized, crate::specs::Times::generalized_contents))]
 pub fn read_generalized(octets: &[u8]) -> Option<Fields>
     ensures value { result ≡ spec.read_generalized octets.now }
@@ -54,8 +54,8 @@ pub fn read_generalized(octets: &[u8]) -> Option<Fields>
     read_after_year(century as u16 * 100 + year as u16, octets)
 }
 
-/// The numbers of a UTCTime: a year of two digits before them, of which 50 and more is 19YY and
-/// less is 20YY.
+/// Reads the numbers of a UTCTime: a year of two digits, and then the rest. 50 and more is 19YY,
+/// and less is 20YY.
 #[tactic(auto, unfolding(crate::specs::TimeReading::read_utc, crate::specs::Times::utc_contents))]
 pub fn read_utc(octets: &[u8]) -> Option<Fields>
     ensures value { result ≡ spec.read_utc octets.now }
@@ -67,8 +67,8 @@ pub fn read_utc(octets: &[u8]) -> Option<Fields>
     read_after_year(century + year as u16, octets)
 }
 
-/// Whether these are 15 octets, Z at their end and digits at their beginning, of which the third
-/// and fourth are not both digits.
+/// Returns whether these are 15 octets that end with Z and begin with two digits, and whose third
+/// and fourth octets are not both digits.
 #[tactic(auto, unfolding(crate::specs::TimeReading::lacks_year))]
 fn lacks_year(octets: &[u8]) -> bool
     ensures { result ≡ spec.lacks_year octets.now }
@@ -79,8 +79,8 @@ fn lacks_year(octets: &[u8]) -> bool
         && read_two_digits(&octets[2..]).is_none()
 }
 
-/// The fault of octets that are no GeneralizedTime: `ErrorKind::DateTime` (14) where the year lacks
-/// its last two digits, else `ErrorKind::Value` (13).
+/// Returns the error for octets that are not a GeneralizedTime: `ErrorKind::DateTime` (14) if the
+/// year lacks its last two digits, else `ErrorKind::Value` (13).
 pub fn generalized_fault(octets: &[u8]) -> ErrorKind
     ensures { result ≡ spec.generalized_fault octets.now }
 {

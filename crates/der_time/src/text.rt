@@ -1,4 +1,5 @@
-//! The six numbers that a text has, as RFC 3339 5.6 writes a time: `2001-01-02T12:13:14Z`.
+//! Reading of the six numbers of a time from a text in the form of RFC 3339 5.6:
+//! `2001-01-02T12:13:14Z`.
 
 ghost use Rattle.std.specs.Prelude.{◌≡◌, IfSome};
 ghost use Rattle.der_time.specs.Times.{clock_text, time_text};
@@ -7,7 +8,7 @@ ghost use Rattle.der_time.specs.TimeReading as spec;
 use crate::digits::{read_octet, read_two_digits};
 use crate::fields::Fields;
 
-/// Hour, minutes and seconds with colons between them, and Z at the end.
+/// Reads hour, minutes and seconds with colons between them, and Z at the end.
 #[tactic(auto, unfolding(crate::specs::TimeReading::read_clock_text, crate::specs::Times::clock_text))]
 fn read_clock_text(year: u16, month: u8, day: u8, text: &[u8]) -> Option<Fields>
     ensures value { result ≡ spec.read_clock_text year month day text.now }
@@ -30,7 +31,7 @@ fn read_clock_text(year: u16, month: u8, day: u8, text: &[u8]) -> Option<Fields>
     })
 }
 
-/// Year, month and day with hyphens between them, and T and the clock after them.
+/// Reads year, month and day with hyphens between them, and T and the clock after them.
 #[tactic(auto, unfolding(crate::specs::TimeReading::read_text, crate::specs::Times::time_text))]
 pub fn read_text(text: &[u8]) -> Option<Fields>
     ensures value { result ≡ spec.read_text text.now }

@@ -1,8 +1,8 @@
 //! UTCTime (X.680 47, X.690 11.8, RFC 5280 4.1.2.5.1).
 //!
-//! The tag is 17 (hexadecimal). The contents octets are 13: the year, month, day, hour, minutes and
-//! seconds in two digits each, then `Z`. Of the year these are the last two digits: 50 and more
-//! stand for 19YY, less for 20YY.
+//! The tag is 17 (hexadecimal). There are 13 contents octets: the last two digits of the year,
+//! then month, day, hour, minutes and seconds in two digits each, then `Z`. The year is 19YY for
+//! 50 and more, and 20YY for less.
 
 ghost use Rattle.std.specs.Prelude.{◌≡◌, ◌≤◌, ◌<◌, refl, false};
 ghost use Rattle.der_elem.specs.FormatMakers.{format_of_contents};
@@ -24,11 +24,11 @@ use std::time::Duration;
 
 /// A UTCTime: a second from 1970 to 2049.
 ///
-/// 1991-05-06T23:45:40Z is encoded as 17 0D and the octets of `910506234540Z`. Times are ordered as
-/// they follow one another, and so not as their contents octets: 2000 is after 1999.
+/// 1991-05-06T23:45:40Z is encoded as 17 0D and the octets of `910506234540Z`. Times are in
+/// chronological order, which is not the order of their contents octets: 2000 is after 1999.
 ///
 /// # Errors
-/// Reading refuses octets that are not such octets of a true time, and the years 1950 to 1969
+/// Decoding fails on octets that are not those of a valid time, and on the years 1950 to 1969
 /// (`ErrorKind::Value`, 13).
 #[derive(Clone, Copy, Debug, PartialEq, Eq, PartialOrd, Ord)]
 pub struct UtcTime {
@@ -42,13 +42,13 @@ impl UtcTime {
     ghost use Rattle.der_time.specs.UtcTime.{utc_time_contents, TakesTime};
     ghost use Rattle.der_time.specs.UnixTime.{unix_seconds, LastsSeconds, IsUtcTimeAfter};
 
-    /// How many contents octets there are.
+    /// The number of contents octets.
     pub const LENGTH: usize = 13;
 
     /// The last year.
     pub const MAX_YEAR: u16 = 2049;
 
-    /// This time as a `UtcTime`.
+    /// Creates a `UtcTime` from a time.
     ///
     /// # Errors
     /// `ErrorKind::Value` (13) for a year after 2049.
@@ -61,19 +61,20 @@ impl UtcTime {
         Ok(UtcTime { date_time })
     }
 
-    /// This time as a `DateTime`.
+    /// Returns this time as a `DateTime`.
     pub fn to_date_time(&self) -> DateTime
         ensures { result ≡ self.now.date_time }
     {
         self.date_time
     }
 
-    /// The time at which the whole seconds of this duration since 1970-01-01T00:00:00Z are over. A
+    /// Returns the time after the whole seconds of this duration since 1970-01-01T00:00:00Z. A
     /// fraction of a second is dropped.
     ///
     /// # Errors
-    /// `ErrorKind::DateTime` (14) for more than 253402300799 seconds, also by less than a second;
-    /// then `ErrorKind::Value` (13) for 2524608000 seconds, which end with the year 2049, and more.
+    /// `ErrorKind::DateTime` (14) for more than 253402300799 seconds, even by less than a second;
+    /// then `ErrorKind::Value` (13) for 2524608000 seconds, which end with the year 2049, and
+    /// more.
     pub fn from_unix_duration(unix_duration: Duration) -> Result<UtcTime, Error>
         ensures { IsUtcTimeAfter unix_duration result }
     {
@@ -86,14 +87,14 @@ impl UtcTime {
         }
     }
 
-    /// The duration since 1970-01-01T00:00:00Z.
+    /// Returns the duration since 1970-01-01T00:00:00Z.
     pub fn to_unix_duration(&self) -> Duration
         ensures { LastsSeconds (unix_seconds self.now.date_time) result }
     {
         self.date_time.unix_duration()
     }
 
-    /// The time with these contents octets, or their fault.
+    /// Creates the time with these contents octets, or returns their error.
     #[tactic(auto, unfolding(crate::specs::TimeReading::utc_or_fault))]
     fn of_contents(octets: &[u8]) -> Result<UtcTime, ErrorKind>
         ensures { ReadAs utc_time_contents utc_or_fault octets.now result }
@@ -107,7 +108,7 @@ impl UtcTime {
         }
     }
 
-    /// The contents octets.
+    /// Returns the contents octets.
     #[tactic(auto, unfolding(crate::specs::Times::utc_contents, crate::specs::Times::after_year, crate::specs::Times::clock_contents, crate::specs::Digits::two_digits))]
     fn contents(&self) -> [u8; 13]
         ensures { result ≡ utc_time_contents self.now }
@@ -169,7 +170,7 @@ impl EncodeValue for UtcTime {
 }
 
 impl ValueOrd for UtcTime {
-    /// The order of the contents octets, in which the last two digits of the year decide first.
+    /// Compares the contents octets, in which the last two digits of the year decide first.
     #[tactic(auto, using(crate::specs::UtcTimeLaws::utc_contents_cmp))]
     fn value_cmp(&self, other: &UtcTime) -> Result<Ordering, Error> {
         let year = self.date_time.year % 100;
@@ -250,7 +251,7 @@ impl<'a> TryFrom<AnyRef<'a>> for UtcTime {
         (borrowed_any.contents_of a) r };
 
     /// # Errors
-    /// (4) with no expected tag for another tag; (13) for octets that are no time.
+    /// (4) with no expected tag for another tag; (13) for octets that are not a time.
     fn try_from(any: AnyRef<'a>) -> Result<UtcTime, Error> {
         if !any.tag().equals(Tag::UtcTime) {
             return Err(Error::from_kind(any.tag().unexpected_error(None)));
@@ -271,7 +272,7 @@ impl<'a> TryFrom<&'a Any> for UtcTime {
         (owned_any.contents_of a.now) r };
 
     /// # Errors
-    /// (4) with no expected tag for another tag; (13) for octets that are no time.
+    /// (4) with no expected tag for another tag; (13) for octets that are not a time.
     fn try_from(any: &'a Any) -> Result<UtcTime, Error> {
         UtcTime::try_from(any.to_ref())
     }

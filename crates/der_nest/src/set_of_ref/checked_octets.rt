@@ -1,4 +1,4 @@
-//! Contents octets that read as items in order.
+//! Contents octets that are known to be items in order.
 
 ghost use Rattle.std.specs.Prelude.{◌≡◌, ◌<◌, ◌≤◌, ◌^◌, ◌⊎◌, length, IfOk, IfErr, OnOk, false};
 ghost use Rattle.std.specs.List.Sorted.{IsSorted};
@@ -16,7 +16,7 @@ use der_tlv::{Error, Reader, SliceReader};
 use std::alloc::Global;
 use std::marker::PhantomData;
 
-/// Octets that read as so many items in order.
+/// Octets that are read as `count` items in order.
 #[derive(Drop)]
 pub(crate) struct CheckedOctets<'a, T: Form> {
     pub(crate) octets: &'a [u8],
@@ -29,7 +29,7 @@ pub(crate) struct CheckedOctets<'a, T: Form> {
 }
 
 impl<'a, T: Form> CheckedOctets<'a, T> {
-    /// A reader of all items.
+    /// Creates a reader of all items.
     pub(crate) fn items(&self) -> ItemReader<'a, T>
         ensures { encodings_left result.left T.parse (slice_reader_state result.reader)
             ≡ encodings_read self.now.count T.parse Der 0 self.now.octets.now }
@@ -37,7 +37,7 @@ impl<'a, T: Form> CheckedOctets<'a, T> {
         ItemReader::new(self.alloc, self.octets, self.count)
     }
 
-    /// The same octets.
+    /// Borrows the same octets.
     pub(crate) fn again(&self) -> CheckedOctets<'a, T>
         ensures octets { result.octets.now ≡ self.now.octets.now }
         ensures count { result.count ≡ self.now.count }
@@ -52,10 +52,11 @@ impl<'a, T: Form> CheckedOctets<'a, T> {
 }
 
 impl<'a, T: Decode<'a, SliceReader<'a>>> CheckedOctets<'a, T> {
-    /// The item at a place, if there is one, read again after those before it.
+    /// Reads again the item at an index, after the items before it. Returns `None` if there is no
+    /// such item.
     ///
     /// # Errors
-    /// `ErrorKind::Memory` (1) where an item takes memory.
+    /// `ErrorKind::Memory` (1) if an item takes memory and none is left.
     pub(crate) fn get(&self, index: usize) -> Option<Result<T, Error>>
         ensures { ReReadsAt T.Form (encodings_read self.now.count T.parse Der 0 self.now.octets.now)
             index result }
@@ -64,10 +65,10 @@ impl<'a, T: Decode<'a, SliceReader<'a>>> CheckedOctets<'a, T> {
     }
 }
 
-/// Checks that an item is not smaller than the last, if there is one.
+/// Checks that an item is not smaller than the last one, if any.
 ///
 /// # Errors
-/// The comparison's; `ErrorKind::SetOrdering` (11) for a smaller item.
+/// The error of the comparison; `ErrorKind::SetOrdering` (11) for a smaller item.
 fn check_next<T: DerOrd>(last: &Option<T>, item: &T) -> Result<(), Error>
     ensures ok { OnOk result (CanFollow T.encoding last.now item.now) }
     ensures refused { IfErr result (λ e. CannotFollow T.Form last.now item.now e.kind) }
@@ -79,12 +80,12 @@ fn check_next<T: DerOrd>(last: &Option<T>, item: &T) -> Result<(), Error>
 }
 
 impl<'a, T: Decode<'a, SliceReader<'a>> + DerOrd + Tagged> CheckedOctets<'a, T> {
-    /// Reads items until nothing is left, and keeps the octets alone.
+    /// Reads items until nothing is left, and keeps only the octets.
     ///
     /// # Errors
-    /// `ErrorKind::Overflow` (9) for more than 4294967295 octets; the first fault of an item, from
-    /// the left; `ErrorKind::SetOrdering` (11) for an item that is smaller than the one before;
-    /// `ErrorKind::Memory` (1) where an item takes memory.
+    /// `ErrorKind::Overflow` (9) for more than 4294967295 octets; the first error of an item,
+    /// from the left; `ErrorKind::SetOrdering` (11) for an item that is smaller than the one
+    /// before; `ErrorKind::Memory` (1) if an item takes memory and none is left.
     pub(crate) fn read(alloc: Global, octets: &'a [u8]) -> Result<CheckedOctets<'a, T>, Error>
         ensures ok { IfOk result (λ read. AcceptsBorrowed T.Form
             (OfOctets (encodings_read read.count T.parse Der 0 read.octets.now)) octets.now) }

@@ -8,12 +8,12 @@ use der_elem::{Decode, DerOrd, Tagged};
 use der_tlv::{Error, SliceReader};
 use std::cmp::Ordering;
 
-/// The lexicographic order of the joined encodings: the first pair of items that differs decides,
+/// Compares the joined encodings lexicographically: the first pair of items that differs decides,
 /// else the number of items.
 ///
 /// # Errors
-/// As the comparison of the items; `ErrorKind::Memory` (1) where an item that is read again takes
-/// memory.
+/// The error of the comparison of two items; `ErrorKind::Memory` (1) if an item that is read
+/// again takes memory and none is left.
 pub(crate) fn cmp_borrowed<'a, T: Decode<'a, SliceReader<'a>> + DerOrd + Tagged>(
     mut items: SetOfRefIter<'a, T>,
     mut others: SetOfRefIter<'a, T>,

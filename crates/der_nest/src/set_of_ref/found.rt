@@ -3,7 +3,7 @@
 ghost use Rattle.std.specs.Prelude.{◌≡◌};
 ghost use Rattle.der_nest.specs.Found.{found_item};
 
-/// An item that was read again, or one of the slice.
+/// An item that was read again, or an item of the slice.
 #[derive(Drop)]
 pub(crate) enum Found<'a, T> {
     Read(T),
@@ -11,7 +11,7 @@ pub(crate) enum Found<'a, T> {
 }
 
 impl<'a, T> Found<'a, T> {
-    /// The item.
+    /// Returns the item.
     pub(crate) fn item(&self) -> &T
         ensures { result.now ≡ found_item self.now }
     {

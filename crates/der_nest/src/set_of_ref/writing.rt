@@ -10,11 +10,11 @@ use der_elem::{Decode, Encode};
 use der_tlv::{Error, Length, SliceReader, Writer};
 
 impl<'a, T: Decode<'a, SliceReader<'a>> + Encode> CheckedOctets<'a, T> {
-    /// How many octets the encodings of the items have.
+    /// Returns the number of octets of the encodings of the items.
     ///
     /// # Errors
-    /// `ErrorKind::Overflow` (9) where there are more than 4294967295; `ErrorKind::Memory` (1)
-    /// where an item takes memory.
+    /// `ErrorKind::Overflow` (9) if there are more than 4294967295; `ErrorKind::Memory` (1) if an
+    /// item takes memory and none is left.
     pub(crate) fn items_len(&self) -> Result<Length, Error>
         ensures { Measures (concat (encodings_read self.now.count T.parse Der 0
             self.now.octets.now)) T.Form.TAKES_MEMORY result }
@@ -27,10 +27,10 @@ impl<'a, T: Decode<'a, SliceReader<'a>> + Encode> CheckedOctets<'a, T> {
         Ok(len)
     }
 
-    /// Writes the encodings of the items, in their order.
+    /// Writes the encodings of the items in order.
     ///
     /// # Errors
-    /// The writer's; `ErrorKind::Memory` (1) where an item takes memory.
+    /// The error of the writer; `ErrorKind::Memory` (1) if an item takes memory and none is left.
     pub(crate) fn encode_items<W: Writer>(&self, writer: &mut W) -> Result<(), Error>
         ensures { Encodes (concat (encodings_read self.now.count T.parse Der 0 self.now.octets.now))
             T.Form.TAKES_MEMORY (W.state writer.old) (W.state writer.new) result }

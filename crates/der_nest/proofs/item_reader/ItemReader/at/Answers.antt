@@ -7,7 +7,7 @@ use Rattle.der_nest.specs.ReReading.{encodings_left, ReReads, ReReadsAt}
 use Rattle.der_nest.proofs.BorrowedOrder.{next_at}
 use Rattle.der_nest.proofs.item_reader.ItemReader.at.Goals as goal
 
--- the next item is the one at the place
+-- the next item is the one at the index
 next_there : {T : Type 0} (F : form.Ghosts T) (es old new : List (List ℕ)) (i : ℕ) (r : Option (Result T Error)) → old ≡ drop i es → i < length es → ReReads F old new r → ReReadsAt F es i r
 next_there F es old new i None is inside told = let l = length-drop i es in let n = ap length (sym is ∙ told.0) in omega arith
 next_there F es old new i (Some (Ok v)) is inside told = (told.0, (next_at es i (F.encoding v) new (sym is ∙ told.1)).1)
