@@ -1,5 +1,5 @@
-//! Public keys from their octets (RFC 5280 section 4.1.2.7): for Ed25519 (RFC 8410), P-256 (RFC
-//! 5480) and RSA (RFC 3279 section 2.3.1).
+//! Public keys from their octets (RFC 5280 section 4.1.2.7): for Ed25519 (RFC 8410), P-256
+//! (RFC 5480) and RSA (RFC 3279 section 2.3.1).
 
 ghost use Rattle.std.specs.Prelude.{◌≡◌, ◌⊎◌, ◌<◌, ◌≤◌, ◌^◌, [], false, length, true, IfOk, IfErr, IsOk, OnOk, ◌↔◌};
 ghost use Rattle.der_tlv.specs.declared.error.ErrorKind.TheVariants as kinds;
