@@ -10,7 +10,7 @@ use Rattle.der_time.specs.Digits.{is_digit}
 use Rattle.der_time.specs.GeneralizedTime.{generalized_time_contents}
 use Rattle.der_time.specs.TimeReading.{generalized_or_fault}
 
--- ---- what the octets are
+-- ---- the octets
 
 -- digits of a fraction: none, or some, the last of which is not 0 (X.690 11.7.3)
 abbrev pub is_fraction : List ℕ → Bool
