@@ -1,4 +1,4 @@
--- What a new reader reads if the octets begin with an encoding.
+-- A new reader of octets that begin with an encoding reads this encoding.
 use Rattle.std.proofs.Common.{◌≡◌, ℕ, ◌+◌, ◌-◌, ◌<◌, ◌^◌, List, ◌++◌, length, take, drop, true, Ok, Err, ap, ◌∙◌, subst, append_assoc, arith}
 use Rattle.std.specs.Prelude.{slice_range}
 use Rattle.std.proofs.lemmas.List.{length-append}
