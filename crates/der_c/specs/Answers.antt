@@ -1,4 +1,4 @@
--- The results of a call: 0 and what was read, or the number of the first error.
+-- The results of a call: 0 and the value that was read, or the number of the first error.
 use Rattle.std.specs.Prelude.{◌≡◌, ◌⊎◌, ℕ, ◌^◌, ◌≤◌, List, length, take, Option, None, Some, Ok}
 use Rattle.der_tlv.specs.declared.encoding_rules.EncodingRules.TheVariants.{Der}
 use Rattle.der_tlv.specs.declared.error.Error.{Error}
