@@ -14,7 +14,7 @@ pub struct Fault {
     pub number: u32,
     /// Whether the position is known: 1 or 0.
     pub is_placed: u32,
-    /// The number of octets before the error, or 0 if it is unknown.
+    /// The number of octets that had been read, or 0 if it is unknown.
     pub position: u32,
 }
 
