@@ -9,7 +9,7 @@ use crate::fault::Fault;
 use crate::lines::{has_more, read_line};
 use std::io::{self, BufRead, ErrorKind};
 
-/// The lines of a reader, of which at most a given number is read.
+/// The lines of a reader. At most a given number of lines is read.
 #[derive(Drop)]
 pub struct LineReader<R> {
     /// The reader.
