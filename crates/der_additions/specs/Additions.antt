@@ -1,4 +1,4 @@
--- What Additions shows, and what it means in place of the end of a list of fields.
+-- The octets of Additions, and its format at the end of a list of fields.
 use Rattle.std.specs.Prelude.{ℕ, List}
 use Rattle.std.proofs.Common.{subst, sym}
 use Rattle.der_elem.specs.FirstTags.{BeginsWithFirst}

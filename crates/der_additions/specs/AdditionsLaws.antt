@@ -1,4 +1,4 @@
--- Equality and copies of additions, as what stands after the fields of a SEQUENCE of a module.
+-- Equality and copies of additions after the fields of a SEQUENCE of a module.
 use Rattle.std.specs.Prelude.{◌≡◌, refl}
 use Rattle.std.proofs.Common.{ap, sym}
 use Rattle.std.specs.Cmp.Lexicographic.{bytes_decides}
@@ -10,7 +10,7 @@ use Rattle.der_additions.specs.declared.additions.Additions.{Additions}
 use Rattle.der_additions.specs.Additions.{additions_format, octets_of}
 use Rattle.der_additions.specs.ElementLaws.{starts_with_first}
 
--- they are equal exactly where their octets are
+-- additions are equal if and only if their octets are
 abbrev pub additions_members : MembersOf Additions
 additions_members = record {
   first_tag = additions_format.first_tag;

@@ -1,4 +1,4 @@
--- The laws of whole encodings that stand one after another.
+-- The laws of whole encodings, one after another.
 use Rattle.std.proofs.Common.{◌≡◌, ℕ, ◌<◌, ◌^◌, List, [], ◌∷◌, ◌++◌, length, drop, Bool, true, false, Option, Some, None, Result, Ok, Err, inl, inr, refl, sym, ap, ◌∙◌, subst, append_assoc}
 use Rattle.std.proofs.Math.Logic.{∥∥₁_elim}
 use Rattle.std.proofs.Math.Seq.{drop-append_seam}
@@ -35,17 +35,17 @@ kept_as_they_came : (octets : List ℕ) (r : Result (List ℕ) ErrorKind) → is
 kept_as_they_came octets (Ok contents) e = refl
 kept_as_they_came octets (Err kind) e = let none : false ≡ true = e in absurd (cc)
 
--- octets that are elements come to themselves
+-- octets of whole encodings are parsed unchanged
 pub elements_parsed : (octets : List ℕ) → ∥ AreElements octets ∥₁ → length octets < 2 ^ 32 → (rules : EncodingRules) (p : ℕ) → parse_elements rules p octets ≡ Ok octets
 elements_parsed octets elements fits rules p =
     let parse = parse_all_items parse_any Der 0 octets in
     kept_as_they_came octets parse (∥∥₁_elim elements (hlevel props) (λ are. ap is_ok ((items_format any_form).parse_of_accepted Der are.value 0 octets are.accepted fits)))
 
--- no octets come to themselves
+-- empty octets are parsed unchanged
 pub none_parsed : (rules : EncodingRules) (p : ℕ) → parse_elements rules p [] ≡ Ok []
 none_parsed rules p = ap (λ r. as_they_came [] (join_encodings r)) (parse_each-end 0 parse_any Der 0)
 
--- no fault is that memory ran out
+-- no error is that memory ran out
 pub fault_alone : {A : Type 0} (parsed : Result A ErrorKind) (kind : ErrorKind) → Faults false false parsed kind → Faults false true parsed kind
 fault_alone parsed kind (inl out) = let never : false ≡ true = out.takes in absurd (cc)
 fault_alone parsed kind (inr fault) = inr fault

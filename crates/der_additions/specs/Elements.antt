@@ -1,4 +1,4 @@
--- Whole encodings with any tags, one after another: what octets hold them, and what is read of them.
+-- Whole encodings with any tags, one after another: their octets, and the values that are read from them.
 use Rattle.std.specs.Prelude.{◌≡◌, ℕ, ◌≤◌, List, length, slice_get, Option, Some, None, Result, Ok, Err}
 use Rattle.der_tlv.specs.declared.error.Error.{Error}
 use Rattle.der_tlv.specs.declared.error.ErrorKind.{ErrorKind}
@@ -17,7 +17,7 @@ use Rattle.der_opaque.specs.contracts.any_ref.AnyRefForm.TheImpl.{ghosts as any_
 abbrev pub AreElements : List ℕ → Type 0
 AreElements octets = AreContentsOf (items_format any_form) octets
 
--- what octets come to: they as they came, or the first fault of an encoding
+-- the octets as they came, or the first error of an encoding
 abbrev pub parse_elements : ContentsParse
 parse_elements = parse_kept (parse_all_items parse_any)
 
@@ -34,12 +34,12 @@ tag_of_header (Err kind) = None
 abbrev pub first_tag : List ℕ → Option Tag
 first_tag octets = tag_of_header (read_header 0 octets)
 
--- a value keeps the octets, which are such encodings; or this is their first fault
+-- a value keeps the octets, which are such encodings; or this is their first error
 abbrev pub KeepsElements : {T : Type 0} → (T → List ℕ) → List ℕ → Result T Error → Type 0
 KeepsElements octets_of octets (Ok kept) = (octets_of kept ≡ octets) × (parse_elements Der 0 octets ≡ Ok octets)
 KeepsElements octets_of octets (Err e) = parse_elements Der 0 octets ≡ Err e.kind
 
--- the value of the encoding at a place, if there is one
+-- the value of the encoding at an index, or none if there is no such index
 abbrev pub StandsAt : List (List ℕ) → ℕ → Option AnyRef → Type 0
 StandsAt encodings index (Some v) = slice_get encodings index ≡ Some (any_form.encoding v)
 StandsAt encodings index None = length encodings ≤ index

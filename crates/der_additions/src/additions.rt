@@ -1,11 +1,11 @@
 //! The extension additions of a SEQUENCE that a module does not have (X.680 7, 25): whole encodings
 //! with any tags, one after another.
 //!
-//! Of the octets 30 06 02 01 05 81 01 FF, of a SEQUENCE with one INTEGER, they are 81 01 FF.
+//! In the octets 30 06 02 01 05 81 01 FF of a SEQUENCE with one INTEGER, they are 81 01 FF.
 //!
-//! What stands inside an addition is not looked at. Reading refuses with the first fault of a header,
-//! under DER, and where fewer octets are left than a header says (`ErrorKind::Incomplete`, 2). What was
-//! read is written, compared and copied as it came.
+//! The contents octets of an addition are not checked. Reading returns the first error of a
+//! header under DER, or `ErrorKind::Incomplete` (2) if fewer octets are left than a header says.
+//! Additions are written, compared and copied as they came.
 
 ghost use Rattle.std.specs.Prelude.{◌≡◌, ◌<◌, ◌≤◌, ◌==◌, ◌^◌, [], length, IfErr, OnOk};
 ghost use Rattle.der_tlv.specs.ReaderState.{new_reader};
@@ -33,11 +33,11 @@ pub struct Additions<'a> {
 impl<'a> Additions<'a> {
     ghost use Rattle.der_additions.specs.Additions.{octets_of};
 
-    /// The additions of these octets, of which each header is read once.
+    /// Keeps the additions in these octets, and reads each header once.
     ///
     /// # Errors
-    /// The first fault of a header, under DER, or of how many octets it says; `ErrorKind::Length` (7)
-    /// for more than 4294967295 octets.
+    /// The first error of a header under DER, or of the number of octets that it says;
+    /// `ErrorKind::Length` (7) for more than 4294967295 octets.
     pub fn new(alloc: Global, octets: &'a [u8]) -> Result<Additions<'a>, Error>
         ensures kept { length octets.now < 2 ^ 32 → KeepsElements octets_of octets.now result }
         ensures fits { OnOk result (length octets.now < 2 ^ 32) }
@@ -49,7 +49,7 @@ impl<'a> Additions<'a> {
         }
     }
 
-    /// No additions.
+    /// Returns a value with no additions.
     pub fn none(alloc: Global) -> Additions<'a>
         ensures { octets_of result ≡ [] }
     {
@@ -59,21 +59,21 @@ impl<'a> Additions<'a> {
         }
     }
 
-    /// The octets of all additions, as they came.
+    /// Returns the octets of all additions, as they came.
     pub fn as_bytes(&self) -> &'a [u8]
         ensures { result.now ≡ octets_of self.now }
     {
         self.list.as_bytes()
     }
 
-    /// Whether there are none.
+    /// Returns whether there are no additions.
     pub fn is_empty(&self) -> bool
         ensures { result ≡ (length (octets_of self.now) == 0) }
     {
         self.list.is_empty()
     }
 
-    /// The addition at a place, if there is one, read again after those before it.
+    /// Returns the addition at an index, if there is one. It reads those before it again.
     pub fn get(&self, alloc: Global, index: usize) -> Option<AnyRef<'a>>
         ensures { StandsAt (encodings_of (octets_of self.now)) index result }
     {
@@ -84,7 +84,7 @@ impl<'a> Additions<'a> {
         }
     }
 
-    /// The additions, in their order, each of which is read again until nothing is left.
+    /// Returns the additions in their order, each read again, until no octets are left.
     pub fn iter(&self, alloc: Global) -> ItemIter<'a, AnyRef<'a>>
         ensures octets { result ≡ new_reader (octets_of self.now) Der }
         ensures items { ∥ HasItems ⟦<AnyRef<'a> as Form>⟧ result ∥₁ }
@@ -96,7 +96,7 @@ impl<'a> Additions<'a> {
 }
 
 impl<'a> fmt::Debug for Additions<'a> {
-    /// The octets, as those of an OCTET STRING are shown.
+    /// Formats the octets as those of an OCTET STRING.
     fn fmt<W: fmt::Write>(&self, f: &mut fmt::Formatter<W>) -> fmt::Result {
         fmt::Debug::fmt(&self.list, f)
     }

@@ -1,8 +1,9 @@
-//! The additions in place of the end of a list of fields.
+//! The additions as the end of a list of fields.
 //!
-//! Nothing is left over then: what `End` refuses (3) is an addition. A field that may be absent is told
-//! from the first addition by its tag, as from any field that follows it. So a value in which such a
-//! field is absent, and the first addition has its tag, can be written, and is read as another.
+//! No octets are left over then: octets that `End` refuses (3) are additions. A field that may be
+//! absent is distinguished from the first addition by its tag, as from any field after it. So a
+//! value in which such a field is absent, and whose first addition has the tag of the field, can
+//! be written, but is read as another value.
 
 ghost use Rattle.std.specs.Prelude.{◌≡◌, true, false, None, length, refl};
 ghost use Rattle.std.proofs.Common.{ap, subst, sym};
@@ -25,7 +26,7 @@ use der_tlv::{BackWriter, Error, Header, Length, Reader, Source, Tag, Writer};
 use std::alloc::Global;
 use std::cmp::Ordering;
 
-/// How many octets the reader shows.
+/// Returns the number of octets that a reader has left.
 fn shown_len<'a, R: Source<'a>>(reader: &R) -> Length
     ensures { result ≡ length (rest (R.state reader.now)) }
 {

@@ -1,5 +1,5 @@
-//! Elements after the fields of a SEQUENCE that a module does not have: extension additions (X.680 7,
-//! 25), kept as they came.
+//! Elements after the fields of a SEQUENCE that a module does not have: extension additions
+//! (X.680 7, 25), kept as they came.
 //!
 //! ```rust
 //! type Limit<'a> = FieldSequence<Fields1<u8, Additions<'a>>>;

@@ -1,4 +1,4 @@
--- Characters have one octet each, so that octets that are characters are UTF-8.
+-- Characters have one octet each, so octets that are characters are UTF-8.
 use Rattle.std.proofs.Common.{◌≡◌, ℕ, ◌<◌, ◌==◌, ◌||◌, ◌&&◌, nat_le, nat_lt, List, [], ◌∷◌, Bool, true, false, refl, arith, if◌then◌else◌, lit<, suc, zero}
 use Rattle.std.specs.Str.{IsUtf8, IsAscii}
 use Rattle.std.proofs.lemmas.Str.{IsUtf8-from_ascii}

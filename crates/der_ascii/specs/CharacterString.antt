@@ -1,4 +1,4 @@
--- What a CharacterString shows.
+-- The octets of a CharacterString.
 use Rattle.std.specs.Prelude.{ℕ, List}
 use Rattle.std.specs.String.{string_bytes}
 use Rattle.der_ascii.specs.declared.string.CharacterString.{CharacterString}

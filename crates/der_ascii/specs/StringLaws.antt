@@ -7,7 +7,7 @@ use Rattle.der_tlv.specs.declared.error.ErrorKind.TheVariants as kinds
 use Rattle.der_tlv.specs.OctetFaults.{IsOfOctets, of_octets_either}
 use Rattle.der_ascii.specs.Characters.{are_characters, string_tag, parse_string}
 
--- characters are parsed as they are
+-- characters are parsed unchanged
 pub parse_of_characters : (number : ℕ) (rules : EncodingRules) (p : ℕ) (text c : List ℕ) → are_characters number text ≡ true → c ≡ text → parse_string number rules p c ≡ Ok text
 parse_of_characters number rules p text c all e = ap (parse_string number rules p) e ∙ rw all refl
 
@@ -21,6 +21,6 @@ string_tag-in_range number = at (number == 19) (number == 20) (number == 21)
     at false false true = lit< tt
     at false false false = lit< tt
 
--- the faults are of the octets
+-- each error is an error in the octets
 pub characters_of_octets : (number : ℕ) (rules : EncodingRules) (p : ℕ) (octets : List ℕ) → IsOfOctets (parse_string number rules p octets)
 characters_of_octets number rules p octets = of_octets_either (are_characters number octets) (Ok octets) (Err (kinds.Value (string_tag number))) tt refl

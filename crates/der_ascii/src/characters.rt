@@ -29,7 +29,7 @@ static PRINTABLE: [u8; 256] = [
     0, 0, 0, 0, 0, 0, 0, 0, 0, 0, 0, 0, 0, 0, 0, 0,
 ];
 
-/// Whether an octet is a character of PrintableString.
+/// Returns whether an octet is a character of PrintableString.
 #[inline(always)]
 fn is_printable(octet: u8) -> bool
     ensures { result ≡ is_printable octet }
@@ -37,7 +37,7 @@ fn is_printable(octet: u8) -> bool
     PRINTABLE[usize::from(octet)] == 1
 }
 
-/// Whether all octets are characters of the type with this universal number.
+/// Returns whether all octets are characters of the type with this universal number.
 pub fn are_characters(number: u8, octets: &[u8]) -> bool
     ensures { result ≡ are_characters number octets.now }
 {
@@ -48,7 +48,7 @@ pub fn are_characters(number: u8, octets: &[u8]) -> bool
     }
 }
 
-/// The text that octets are.
+/// Returns the octets as text.
 ///
 /// # Errors
 /// `ErrorKind::Value` (13) for an octet that is no character of the type with this universal
@@ -62,11 +62,11 @@ pub fn text_of(number: u8, octets: &[u8]) -> Result<&str, ErrorKind>
     if !are_characters(number, octets) {
         return Err(string_tag(number).value_error());
     }
-    // This is called only with UTF-8, which is proved: characters are ASCII.
+    // It is proved that the octets are UTF-8, because the characters are ASCII.
     Ok(unsafe { str::from_utf8_unchecked(octets) })
 }
 
-/// The tag with this universal number.
+/// Returns the tag with this universal number.
 pub fn string_tag(number: u8) -> Tag
     ensures { result ≡ string_tag number }
 {

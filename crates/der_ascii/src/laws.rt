@@ -10,8 +10,8 @@ use crate::{
 use der_elem::FixedTag;
 use der_tlv::Tag;
 
-/// The tags of the types (X.680 8.6): each owned one's and its borrowed form's, in the order of
-/// their names below.
+/// Returns the tags of the types (X.680 8.6), of owned strings and of borrowed ones, in the order
+/// of their names below.
 pub fn universal_tags() -> [Tag; 7]
     ensures { result ≡ tags.PrintableString ∷ tags.PrintableString ∷ tags.TeletexString
         ∷ tags.TeletexString ∷ tags.VideotexString ∷ tags.Ia5String ∷ tags.Ia5String ∷ [] }

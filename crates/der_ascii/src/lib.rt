@@ -1,4 +1,4 @@
-//! Strings of characters that have one octet each: PrintableString, IA5String, TeletexString and
+//! Strings whose characters have one octet each: PrintableString, IA5String, TeletexString and
 //! VideotexString (X.690 8.23).
 //!
 //! ```rust

@@ -1,7 +1,7 @@
-//! Strings of characters that have one octet each (X.680 41, X.690 8.23).
+//! Strings whose characters have one octet each (X.680 41, X.690 8.23).
 //!
 //! The contents octets are the characters. Reading refuses any octet that is no character of the
-//! type (`ErrorKind::Value`, 13), and then where memory runs out (`ErrorKind::Memory`, 1).
+//! type (`ErrorKind::Value`, 13), and then fails if memory runs out (`ErrorKind::Memory`, 1).
 
 ghost use Rattle.std.specs.Prelude.{◌≡◌, ◌↔◌, ◌^◌, ◌<◌, [], Some, length, true, refl, IsTrue};
 ghost use Rattle.std.proofs.Common.{sym};
@@ -25,7 +25,7 @@ use der_tlv::{BackWriter, Error, Header, Length, Reader, Source, Writer};
 use std::alloc::{AllocError, Global};
 use std::fmt;
 
-/// Characters of the type with a universal number: at most 4294967295 of them.
+/// Characters of the type with a universal number: at most 4294967295 octets.
 #[derive(Drop, PartialEq, Eq, PartialOrd, Ord, Hash)]
 pub struct CharacterString<const NUMBER: u8> {
     pub(crate) text: String,
@@ -36,11 +36,11 @@ pub struct CharacterString<const NUMBER: u8> {
 impl<const NUMBER: u8> CharacterString<NUMBER> {
     ghost use Rattle.der_ascii.specs.CharacterString.{octets_of};
 
-    /// A string of these characters, copied.
+    /// Makes a string with a copy of these characters.
     ///
     /// # Errors
     /// `ErrorKind::Value` (13) for an octet that is no character of the type, and for more than
-    /// 4294967295 octets; else `ErrorKind::Memory` (1) where memory runs out.
+    /// 4294967295 octets; else `ErrorKind::Memory` (1) if memory runs out.
     pub fn new(alloc: Global, octets: &[u8]) -> Result<CharacterString<NUMBER>, Error>
         ensures { KeepsOwnedString octets_of NUMBER octets.now result }
     {
@@ -50,35 +50,35 @@ impl<const NUMBER: u8> CharacterString<NUMBER> {
         }
     }
 
-    /// The text.
+    /// Returns the text.
     pub fn as_str(&self) -> &str
         ensures { result.now ≡ octets_of self.now }
     {
         self.text.as_str()
     }
 
-    /// The octets.
+    /// Returns the octets.
     pub fn as_bytes(&self) -> &[u8]
         ensures { result.now ≡ octets_of self.now }
     {
         self.text.as_bytes()
     }
 
-    /// How many octets there are.
+    /// Returns the number of octets.
     pub fn len(&self) -> Length
         ensures { result ≡ length (octets_of self.now) }
     {
         Length::new(self.text.len() as u32)
     }
 
-    /// Whether it has no characters.
+    /// Returns whether the string is empty.
     pub fn is_empty(&self) -> bool
         ensures { IsTrue result ↔ (octets_of self.now ≡ []) }
     {
         self.as_bytes().is_empty()
     }
 
-    /// The string, borrowed.
+    /// Borrows the string.
     pub fn owned_to_ref(&self) -> CharacterStringRef<'_, NUMBER>
         ensures { borrowed.octets_of result ≡ octets_of self.now }
     {
@@ -130,7 +130,8 @@ impl<'a, R: Source<'a>, const NUMBER: u8> DecodeValue<'a, R> for CharacterString
     const TAKES_MEMORY: bool = true;
 
     /// # Errors
-    /// (17) on a failed reader; octets that are no characters (13); else (1) where memory runs out.
+    /// (17) on a failed reader; (13) for an octet that is no character; else (1) if memory runs
+    /// out.
     fn decode_value(
         alloc: Global,
         reader: &mut R,

@@ -1,4 +1,4 @@
-//! Borrowed strings of characters that have one octet each (X.680 41, X.690 8.23).
+//! Borrowed strings whose characters have one octet each (X.680 41, X.690 8.23).
 //!
 //! The contents octets are the characters: the PrintableString `hi` is encoded as 13 02 68 69.
 //! Reading refuses any octet that is no character of the type (`ErrorKind::Value`, 13).
@@ -24,7 +24,7 @@ use der_tlv::{BackWriter, Error, Header, Length, Reader, Source, Writer};
 use std::alloc::Global;
 use std::fmt;
 
-/// Characters of the type with a universal number, borrowed: at most 4294967295 of them.
+/// Characters of the type with a universal number, borrowed: at most 4294967295 octets.
 #[derive(Clone, Copy, PartialEq, Eq, PartialOrd, Ord, Hash)]
 pub struct CharacterStringRef<'a, const NUMBER: u8> {
     pub(crate) text: &'a str,
@@ -36,7 +36,7 @@ impl<'a, const NUMBER: u8> CharacterStringRef<'a, NUMBER> {
     ghost use Rattle.der_ascii.specs.CharacterString as owned;
     ghost use Rattle.der_ascii.specs.CharacterStringRef.{octets_of};
 
-    /// A string of these characters.
+    /// Makes a string of these characters.
     ///
     /// # Errors
     /// `ErrorKind::Value` (13) for an octet that is no character of the type, and for more than
@@ -53,38 +53,38 @@ impl<'a, const NUMBER: u8> CharacterStringRef<'a, NUMBER> {
         }
     }
 
-    /// The text.
+    /// Returns the text.
     pub fn as_str(self) -> &'a str
         ensures { result.now ≡ octets_of self.entry }
     {
         self.text
     }
 
-    /// The octets.
+    /// Returns the octets.
     pub fn as_bytes(self) -> &'a [u8]
         ensures { result.now ≡ octets_of self.entry }
     {
         self.text.as_bytes()
     }
 
-    /// How many octets there are.
+    /// Returns the number of octets.
     pub fn len(self) -> Length
         ensures { result ≡ length (octets_of self.entry) }
     {
         Length::new(self.text.len() as u32)
     }
 
-    /// Whether it has no characters.
+    /// Returns whether the string is empty.
     pub fn is_empty(self) -> bool
         ensures { IsTrue result ↔ (octets_of self.entry ≡ []) }
     {
         self.as_bytes().is_empty()
     }
 
-    /// The string, copied.
+    /// Returns a copy of the string.
     ///
     /// # Errors
-    /// `ErrorKind::Memory` (1) where memory runs out.
+    /// `ErrorKind::Memory` (1) if memory runs out.
     pub fn ref_to_owned(self, alloc: Global) -> Result<CharacterString<NUMBER>, Error>
         ensures value { IfOk result (λ s. owned.octets_of s ≡ octets_of self.entry) }
         ensures err { IfErr result (λ e. e.kind ≡ kinds.Memory) }
@@ -207,7 +207,8 @@ impl<'a, const NUMBER: u8> TryFrom<AnyRef<'a>> for CharacterStringRef<'a, NUMBER
         (borrowed_any.contents_of a) r };
 
     /// # Errors
-    /// (4) with no expected tag for another tag; (13) for an octet that is no character of the type.
+    /// (4) with no expected tag for any other tag; (13) for an octet that is no character of the
+    /// type.
     fn try_from(any: AnyRef<'a>) -> Result<CharacterStringRef<'a, NUMBER>, Error> {
         let tag = any.tag();
         if !tag.equals(string_tag(NUMBER)) {
@@ -229,7 +230,8 @@ impl<'a, const NUMBER: u8> TryFrom<&'a Any> for CharacterStringRef<'a, NUMBER> {
         (owned_any.contents_of a.now) r };
 
     /// # Errors
-    /// (4) with no expected tag for another tag; (13) for an octet that is no character of the type.
+    /// (4) with no expected tag for any other tag; (13) for an octet that is no character of the
+    /// type.
     fn try_from(any: &'a Any) -> Result<CharacterStringRef<'a, NUMBER>, Error> {
         CharacterStringRef::try_from(any.to_ref())
     }

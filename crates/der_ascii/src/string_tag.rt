@@ -1,4 +1,4 @@
-//! The tags of the strings of characters that have one octet each.
+//! The tags of the strings whose characters have one octet each.
 
 ghost use Rattle.der_ascii.specs.Characters.{string_tag};
 ghost use Rattle.der_ascii.specs.StringLaws.{string_tag-in_range};

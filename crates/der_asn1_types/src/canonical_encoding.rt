@@ -9,12 +9,12 @@ use der_elem::{Encode, FromDer};
 use der_tlv::Error;
 use std::alloc::Global;
 
-/// Reads a value from octets that are its encoding and nothing else, and writes its encoding. Octets
-/// that are made canonical twice are as they are made once.
+/// Reads a value from all of the octets, and returns its canonical encoding. The canonical
+/// encoding of a canonical encoding is itself.
 ///
 /// # Errors
-/// The first fault of the octets; `ErrorKind::Memory` (1) where memory runs out: for a type that
-/// takes none to be read, only where the octets have no fault.
+/// The first error in the octets; `ErrorKind::Memory` (1) if memory runs out: for a type that
+/// takes no memory to be read, only if the octets have no error.
 pub fn canonical<'a, T: FromDer<'a> + Encode>(
     alloc: Global,
     octets: &'a [u8],

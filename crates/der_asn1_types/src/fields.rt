@@ -1,8 +1,8 @@
 //! The traits of lists of fields, for functions over every list and for parts of a long one, and the
 //! macros of a struct with names for its fields.
 //!
-//! A crate that calls a macro has to name the crate that defines it, so the macros of `der_fields`
-//! stand here once more.
+//! A crate that calls a macro has to name the crate that defines it, so the macros of
+//! `der_fields` are repeated here.
 
 pub use der_fields::{
     DecodeFields, DuplicateFields, DuplicateFieldsAreEqual, EncodeFields, ExplicitApplicationTag,
@@ -10,8 +10,8 @@ pub use der_fields::{
     ImplicitPrivateTag, ImplicitTag, cmp_headers,
 };
 
-/// The struct of a list's fields, as the body of `of_list`: `from_list!(list => Name { a, default b })`
-/// names them in their order, and says `default` before one with a DEFAULT.
+/// Makes the struct of the fields of a list, as the body of `of_list`: `from_list!(list => Name {
+/// a, default b })` names them in their order, with `default` before a field with a DEFAULT.
 #[macro_export]
 macro_rules! from_list {
     (@ $name:ident, $at:expr, { $($done:tt)* };) => {
@@ -28,7 +28,8 @@ macro_rules! from_list {
     };
 }
 
-/// The list of a struct's fields, as the body of `to_list`: `to_list!(self => a, default b)`.
+/// Makes the list of the fields of a struct, as the body of `to_list`: `to_list!(self => a,
+/// default b)`.
 #[macro_export]
 macro_rules! to_list {
     ($value:expr =>) => {

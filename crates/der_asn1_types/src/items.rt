@@ -1,5 +1,5 @@
-//! What lists of items are written, compared, copied and put in order by, for a list type of one's
-//! own.
+//! Functions that write, compare, copy and order lists of items, for a list type that a user
+//! defines.
 
 pub use der_elem::{
     DuplicateIsEqual, DuplicateValueIsEqual, check_ready, cmp_items, encode_items,

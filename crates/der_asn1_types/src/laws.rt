@@ -1,5 +1,5 @@
 //! The laws of the layer, as contracts of functions that do nothing: a proof that calls one may
-//! rest on what it says.
+//! use what it states.
 
 pub use der_ascii::laws::universal_tags as character_string_tags;
 pub use der_bits::laws::{equal_bits, max_unused_bits, universal_tags as bit_string_tags};

@@ -1,4 +1,4 @@
-//! The typed values of X.690 DER, under one name, and their canonical encodings.
+//! The typed values of X.690 DER under one name, and their canonical encodings.
 //!
 //! ```rust
 //! let octets = [0x31, 0x06, 0x02, 0x01, 0x08, 0x02, 0x01, 0x07];

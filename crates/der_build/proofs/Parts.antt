@@ -19,32 +19,32 @@ use Rattle.der_build.specs.Names.{name_octets, part_octets, RefusesName, Refuses
 abbrev pub part_encoding : Any → List ℕ
 part_encoding part = tlv (tag_of part) (contents_of part)
 
--- the octets of some parts and of the attributes that are left stay the same where a part is made of the first of these
+-- the octets of the parts so far and of the attributes that are left stay equal if a part is made of the first of these attributes
 one_more : {P A : Type 0} (encoding : P → List ℕ) (octets : A → List ℕ) (parts : List P) (part : P) (first : A) (others : List A) → encoding part ≡ octets first → flat_map encoding (parts ++ part ∷ []) ++ flat_map octets others ≡ flat_map encoding parts ++ flat_map octets (first ∷ others)
 one_more encoding octets parts part first others same =
     ap (λ l. l ++ flat_map octets others) (flat_map-append encoding parts (part ∷ []))
     ∙ append_assoc (flat_map encoding parts) (flat_map encoding (part ∷ [])) (flat_map octets others)
     ∙ ap (λ l. flat_map encoding parts ++ (l ++ flat_map octets others)) (append-nil (encoding part) ∙ same)
 
--- parts of the attributes before those that are left: their octets are those of all, and what is refused of the latter is refused of all
+-- parts of the attributes before those that are left: their octets and those that are left are the octets of all, and an error of an attribute that is left is an error of all
 abbrev pub MadeSoFar : List TextAttribute → List TextAttribute → List Any → Type 0
 MadeSoFar all l parts =
     (flat_map part_encoding parts ++ flat_map part_octets l ≡ flat_map part_octets all)
     × ((kind : ErrorKind) → RefusesOne kind l → RefusesOne kind all)
 
--- what is left behind the first
+-- what is left after the first
 rest_is : (x : TextAttribute) (xs : List TextAttribute) → take (length (x ∷ xs) - 1) (drop 1 (x ∷ xs)) ≡ xs
 rest_is x xs = let n : length (x ∷ xs) - 1 ≡ length xs = omega arith in ap (λ n. take n xs) n ∙ take-length xs
 
--- an encoding has the contents octets
+-- an encoding is at least as long as its contents octets
 longer : (t : Tag) (octets : List ℕ) → length octets ≤ length (tlv t octets)
 longer t octets = omega (arith, length-append (header_octets t (length octets)) octets)
 
--- octets have those of a part of them
+-- octets are at least as long as any part of them
 contained : (front part behind whole : List ℕ) → front ++ (part ++ behind) ≡ whole → length part ≤ length whole
 contained front part behind whole same = omega (arith, ap length same, length-append front (part ++ behind), length-append part behind)
 
--- a name has the octets of each of its attributes
+-- a name is at least as long as each of its attributes
 long_name : (all : List TextAttribute) (x : TextAttribute) (xs : List TextAttribute) (parts : List Any) → flat_map part_encoding parts ++ flat_map part_octets (x ∷ xs) ≡ flat_map part_octets all → 2 ^ 32 ≤ length (attribute_octets x.type_.now x.text.now) → 2 ^ 32 ≤ length (name_octets all)
 long_name all x xs parts same long =
     let own = longer tags.Set (attribute_octets x.type_.now x.text.now) in
@@ -52,7 +52,7 @@ long_name all x xs parts same long =
     let whole = longer tags.Sequence (flat_map part_octets all) in
     omega (arith, long, own, within, whole)
 
--- why the part of the first that is left is not made
+-- the reason why the part of the first attribute that is left is not made
 first_refused : (kind : ErrorKind) (all : List TextAttribute) (x : TextAttribute) (xs : List TextAttribute) (parts : List Any) → MadeSoFar all (x ∷ xs) parts → RefusesPart x kind → RefusesName all kind
 first_refused kind all x xs parts made (inl text) = inr (inr (made.1 kind (inl text)))
 first_refused kind all x xs parts made (inr (inl memory)) = inl memory.0
@@ -78,7 +78,7 @@ pub all_made : (all l : List TextAttribute) (parts : List Any) → MadeSoFar all
 all_made all [] parts made none = ap (tlv tags.Sequence) (sym (append-nil (flat_map part_encoding parts)) ∙ made.0)
 all_made all (x ∷ xs) parts made none = absurd (omega (arith, none))
 
--- why the octets of a name are not written
+-- the reason why the octets of a name are not written
 pub not_written : (all : List TextAttribute) (octets : List ℕ) (re_reads : Bool) (kind : ErrorKind) → octets ≡ name_octets all → NoVector octets re_reads kind → RefusesName all kind
 not_written all octets re_reads kind same (inl memory) = inl memory.0
 not_written all octets re_reads kind same (inr (inl long)) = inr (inl (long.0, subst (λ (l : List ℕ). 2 ^ 32 ≤ length l) same long.1))

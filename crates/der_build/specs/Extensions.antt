@@ -1,4 +1,4 @@
--- Extensions as they are built (RFC 5280 section 4.2).
+-- Extensions that are built (RFC 5280 section 4.2).
 use Rattle.std.specs.Prelude.{◌≡◌, ◌⊎◌, ◌<◌, ◌≤◌, ◌^◌, ℕ, List, [], ◌∷◌, length, Bool, false}
 use Rattle.der_tlv.specs.declared.error.ErrorKind.{ErrorKind}
 use Rattle.der_tlv.specs.declared.error.ErrorKind.TheVariants as kinds
@@ -16,7 +16,7 @@ abbrev pub extension_octets : List ℕ → Bool → List ℕ → List ℕ
 extension_octets identifier critical value =
     tlv tags.Sequence (joined (tlv tags.ObjectIdentifier identifier ∷ critical_octets critical ∷ tlv tags.OctetString value ∷ []))
 
--- why there is none: no identifier (15), one of more than 39 octets (7), or a value of more octets than a length can count (7)
+-- the reason why there is no extension: an identifier of no octets (15) or of more than 39 (7), or a value of more octets than a length can count (7)
 abbrev pub RefusesExtension : List ℕ → List ℕ → ErrorKind → Type 0
 RefusesExtension identifier value kind =
     ((kind ≡ kinds.OidMalformed) × (identifier ≡ []))

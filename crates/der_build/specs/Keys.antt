@@ -1,4 +1,4 @@
--- Public keys as they are built: of Ed25519 (RFC 8410), of P-256 (RFC 5480), of RSA (RFC 3279 section 2.3.1).
+-- Public keys that are built: for Ed25519 (RFC 8410), P-256 (RFC 5480) and RSA (RFC 3279 section 2.3.1).
 use Rattle.std.specs.Prelude.{◌≡◌, ◌⊎◌, ◌≤◌, ◌^◌, ◌==◌, ◌&&◌, ◌||◌, ℕ, List, [], ◌∷◌, length, Bool, false}
 use Rattle.der_tlv.specs.declared.error.ErrorKind.{ErrorKind}
 use Rattle.der_tlv.specs.declared.error.ErrorKind.TheVariants as kinds
@@ -30,19 +30,19 @@ abbrev pub key_info_octets : List ℕ → List ℕ → List ℕ → List ℕ
 key_info_octets algorithm parameters key =
     tlv tags.Sequence (joined (tlv tags.Sequence (joined (tlv tags.ObjectIdentifier algorithm ∷ parameters ∷ [])) ∷ tlv tags.BitString (0 ∷ key) ∷ []))
 
--- of Ed25519: no parameters, and 32 octets (RFC 8410 sections 3 and 4)
+-- an Ed25519 key: no parameters, and 32 octets (RFC 8410 sections 3 and 4)
 abbrev pub ed25519_octets : List ℕ → List ℕ
 ed25519_octets key = key_info_octets id_ed25519 [] key
 
--- of P-256: the curve by its name (RFC 5480 section 2.1.1), and a point
+-- a P-256 key: the curve by its name (RFC 5480 section 2.1.1), and a point
 abbrev pub p256_octets : List ℕ → List ℕ
 p256_octets point = key_info_octets id_ec_public_key (tlv tags.ObjectIdentifier secp256r1) point
 
--- of RSA: NULL, and the encoding of an RSAPublicKey (RFC 3279 section 2.3.1)
+-- an RSA key: NULL, and the encoding of an RSAPublicKey (RFC 3279 section 2.3.1)
 abbrev pub rsa_octets : List ℕ → List ℕ
 rsa_octets key = key_info_octets rsa_encryption (tlv tags.Null []) key
 
--- RSAPublicKey: n and e, which these octets say, highest first (RFC 3279 section 2.3.1)
+-- RSAPublicKey: n and e, from these octets, most significant first (RFC 3279 section 2.3.1)
 abbrev pub rsa_public_key_octets : List ℕ → List ℕ → List ℕ
 rsa_public_key_octets modulus exponent =
     tlv tags.Sequence (joined (tlv tags.Integer (natural_contents (big_endian_number modulus)) ∷ tlv tags.Integer (natural_contents (big_endian_number exponent)) ∷ []))
@@ -53,11 +53,11 @@ is_p256_point [] = false
 is_p256_point (form ∷ others) =
     ((form == 4) && (length others == 64)) || (((form == 2) || (form == 3)) && (length others == 32))
 
--- no octets, or more than a length can count once the leading zeros are off
+-- no octets, or more than a length can count without leading zeros
 abbrev pub IsNoNumber : List ℕ → Type 0
 IsNoNumber octets = (octets ≡ []) ⊎ (2 ^ 32 ≤ length (without_sign_octet (natural_contents (big_endian_number octets))))
 
--- why there is no RSAPublicKey: a number that cannot be kept (7), or no room to write it
+-- the reason why there is no RSAPublicKey: a number that cannot be kept (7), or an encoding that cannot be written to memory
 abbrev pub RefusesRsaPublicKey : List ℕ → List ℕ → ErrorKind → Type 0
 RefusesRsaPublicKey modulus exponent kind =
     ((kind ≡ kinds.Length tags.Integer) × (IsNoNumber modulus ⊎ IsNoNumber exponent))

@@ -21,11 +21,11 @@ abbrev pub RefusesOne : ErrorKind → List TextAttribute → Type 0
 RefusesOne kind [] = ⊥
 RefusesOne kind (a ∷ others) = RefusesText a.type_.now a.text.now kind ⊎ RefusesOne kind others
 
--- why there is no part: its attribute cannot be made, or there is no room to write it
+-- the reason why there is no part: its attribute cannot be made, or its encoding cannot be written to memory
 abbrev pub RefusesPart : TextAttribute → ErrorKind → Type 0
 RefusesPart a kind = RefusesText a.type_.now a.text.now kind ⊎ NoVector (attribute_octets a.type_.now a.text.now) false kind
 
--- why there is no name: memory ran out (1), it has more octets than a length can count (9), or one of its attributes cannot be made
+-- the reason why there is no name: memory ran out (1), it has more octets than a length can count (9), or one of its attributes cannot be made
 abbrev pub RefusesName : List TextAttribute → ErrorKind → Type 0
 RefusesName attributes kind =
     (kind ≡ Memory)

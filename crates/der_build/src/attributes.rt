@@ -17,23 +17,24 @@ use der_tlv::Error;
 /// 55 04 03 with `mill` is a commonName.
 #[derive(Clone, Copy, Debug)]
 pub struct TextAttribute<'a> {
-    /// 55 04 03 of commonName: `der_pkix::name::constants` has more.
+    /// The contents octets of the identifier, such as 55 04 03 for commonName;
+    /// `der_pkix::name::constants` has more.
     pub type_: &'a [u8],
     /// The text.
     pub text: &'a str,
 }
 
-/// An attribute with its text in the string that RFC 5280 asks for: a PrintableString for
-/// countryName, serialNumber and dnQualifier, an IA5String for domainComponent and emailAddress, and
-/// else a UTF8String.
+/// Makes an attribute with its text in the string that RFC 5280 requires: a PrintableString for
+/// countryName, serialNumber and dnQualifier, an IA5String for domainComponent and emailAddress,
+/// and a UTF8String for any other.
 ///
 /// 55 04 03 with `mill` is encoded as 30 0B 06 03 55 04 03 0C 04 6D 69 6C 6C.
 ///
 /// # Errors
-/// `ErrorKind::OidMalformed` (15) for a type of no octets; `ErrorKind::Length` (7) for one of more
-/// than 39, and for a text of more than 4294967295; `ErrorKind::Value` (13) with the string's tag for
-/// a text that this string cannot hold, or that has fewer or more characters than RFC 5280 appendix
-/// A.1 allows.
+/// `ErrorKind::OidMalformed` (15) for a type of no octets; `ErrorKind::Length` (7) for a type of
+/// more than 39, and for a text of more than 4294967295; `ErrorKind::Value` (13) with the tag of
+/// the string for a text that this string cannot hold, or that has fewer or more characters than
+/// RFC 5280 appendix A.1 allows.
 pub fn attribute<'a>(attribute: TextAttribute<'a>) -> Result<AttributeTypeAndValue<'a>, Error>
     ensures type_ { IfOk result (λ a. octets_of (attribute_fields.type_ a) ≡ attribute.entry.type_.now) }
     ensures tag { IfOk result (λ a. tag_of (attribute_fields.value a) ≡ string_tag attribute.entry.type_.now) }

@@ -8,14 +8,15 @@ use der_opaque::{ObjectIdentifierRef, OctetStringRef};
 use der_pkix::certificate::Extension;
 use der_tlv::Error;
 
-/// An extension: the contents octets of its identifier, whether it is critical, and the encoding of
-/// its value, which the caller has written.
+/// Makes an extension from the contents octets of its identifier, whether it is critical, and the
+/// encoding of its value, which the caller has written.
 ///
-/// 55 1D 13 with 30 00 is encoded as 30 09 06 03 55 1D 13 04 02 30 00: a basicConstraints, of no CA.
+/// 55 1D 13 with 30 00 is encoded as 30 09 06 03 55 1D 13 04 02 30 00: a basicConstraints that is
+/// not of a CA.
 ///
 /// # Errors
-/// `ErrorKind::OidMalformed` (15) for an identifier of no octets; `ErrorKind::Length` (7) for one of
-/// more than 39, and for a value of more than 4294967295.
+/// `ErrorKind::OidMalformed` (15) for an identifier of no octets; `ErrorKind::Length` (7) for an
+/// identifier of more than 39, and for a value of more than 4294967295.
 pub fn extension<'a>(
     identifier: &'a [u8],
     critical: bool,

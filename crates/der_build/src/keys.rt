@@ -1,5 +1,5 @@
-//! Public keys, from their octets (RFC 5280 section 4.1.2.7): of Ed25519 (RFC 8410), of P-256
-//! (RFC 5480) and of RSA (RFC 3279 section 2.3.1).
+//! Public keys from their octets (RFC 5280 section 4.1.2.7): for Ed25519 (RFC 8410), P-256
+//! (RFC 5480) and RSA (RFC 3279 section 2.3.1).
 
 ghost use Rattle.std.specs.Prelude.{◌≡◌, ◌⊎◌, ◌<◌, ◌≤◌, ◌^◌, [], false, length, true, IfOk, IfErr, IsOk, OnOk, ◌↔◌};
 ghost use Rattle.der_tlv.specs.declared.error.ErrorKind.TheVariants as kinds;
@@ -29,9 +29,9 @@ const SECP256R1: &[u8] = &[0x2a, 0x86, 0x48, 0xce, 0x3d, 0x03, 0x01, 0x07];
 /// rsaEncryption, 1.2.840.113549.1.1.1, as contents octets.
 const RSA_ENCRYPTION: &[u8] = &[0x2a, 0x86, 0x48, 0x86, 0xf7, 0x0d, 0x01, 0x01, 0x01];
 
-/// A public key of Ed25519, of its 32 octets.
+/// Makes an Ed25519 public key from its 32 octets.
 ///
-/// It is encoded as 30 2A 30 05 06 03 2B 65 70 03 21 00 and the octets.
+/// It is encoded as 30 2A 30 05 06 03 2B 65 70 03 21 00 and the 32 octets.
 ///
 /// # Errors
 /// `ErrorKind::Length` (7) with the tag of BIT STRING for another number of octets.
@@ -46,10 +46,10 @@ pub fn ed25519_key<'a>(key: &'a [u8]) -> Result<SubjectPublicKeyInfo<'a>, Error>
     key_info(ID_ED25519, None, key)
 }
 
-/// A public key of P-256, of a point: 04 and both coordinates, or 02 or 03 and the first.
+/// Makes a P-256 public key from a point: 04 and both coordinates, or 02 or 03 and the first.
 ///
-/// Of a point of 65 octets it is encoded as 30 59 30 13 06 07 2A 86 48 CE 3D 02 01 06 08 2A 86 48 CE
-/// 3D 03 01 07 03 42 00 and the octets. That they are a point of the curve is not checked.
+/// A point of 65 octets is encoded as 30 59 30 13 06 07 2A 86 48 CE 3D 02 01 06 08 2A 86 48 CE 3D
+/// 03 01 07 03 42 00 and its octets. Whether it is a point of the curve is not checked.
 ///
 /// # Errors
 /// `ErrorKind::Value` (13) with the tag of BIT STRING for octets of another form.
@@ -67,7 +67,7 @@ pub fn p256_key<'a>(point: &'a [u8]) -> Result<SubjectPublicKeyInfo<'a>, Error>
     }
 }
 
-/// A public key of RSA, of the encoding of its RSAPublicKey, as `rsa_public_key` writes it.
+/// Makes an RSA public key from the encoding of its RSAPublicKey, which `rsa_public_key` writes.
 ///
 /// # Errors
 /// `ErrorKind::Length` (7) with the tag of BIT STRING for more than 4294967295 octets.
@@ -78,13 +78,14 @@ pub fn rsa_key<'a>(key: &'a [u8]) -> Result<SubjectPublicKeyInfo<'a>, Error>
     key_info(RSA_ENCRYPTION, Some(AnyRef::NULL), key)
 }
 
-/// The encoding of an RSAPublicKey, of the octets of its modulus and of its exponent, highest first.
+/// Returns the encoding of an RSAPublicKey from the octets of its modulus and of its exponent,
+/// most significant first.
 ///
 /// C5 and 03 are encoded as 30 07 02 02 00 C5 02 01 03.
 ///
 /// # Errors
 /// `ErrorKind::Length` (7) with the tag of INTEGER for a number of no octets;
-/// `ErrorKind::Overflow` (9) for more octets than a length can count; `ErrorKind::Memory` (1) where
+/// `ErrorKind::Overflow` (9) for more octets than a length can count; `ErrorKind::Memory` (1) if
 /// memory runs out.
 pub fn rsa_public_key(alloc: Global, modulus: &[u8], exponent: &[u8]) -> Result<Vec<u8>, Error>
     ensures octets { IfOk result (λ octets. octets.items ≡ rsa_public_key_octets modulus.now exponent.now) }
@@ -100,7 +101,8 @@ pub fn rsa_public_key(alloc: Global, modulus: &[u8], exponent: &[u8]) -> Result<
     }
 }
 
-/// Whether a point is 04 and two coordinates of 32 octets, or 02 or 03 and one.
+/// Returns whether a point is 04 and two coordinates of 32 octets, or 02 or 03 and one
+/// coordinate.
 fn is_p256_point(point: &[u8]) -> bool
     ensures { result ≡ is_p256_point point.now }
 {
@@ -112,7 +114,7 @@ fn is_p256_point(point: &[u8]) -> bool
     }
 }
 
-/// A public key of these octets, for an algorithm with these parameters.
+/// Makes a public key from these octets, for an algorithm with these parameters.
 fn key_info<'a>(
     algorithm: &'a [u8],
     parameters: Option<AnyRef<'a>>,

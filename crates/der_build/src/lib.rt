@@ -1,9 +1,10 @@
-//! What who builds a certificate or a request needs beside writing it: names from texts, extensions
-//! from their values, and public keys from their octets.
+//! Parts of certificates and requests: names from texts, extensions from their values, and public
+//! keys from their octets.
 //!
-//! What is built borrows the octets that it is built from, as all values of `der_pkix` do: the caller
-//! holds them as long as the value. A name is a list of parts that are written first: so it is given as a
-//! `Vec<u8>` of the caller's, from which the caller reads it.
+//! A value that is built borrows the octets that it is built from, as all values of `der_pkix`
+//! do: the caller keeps them as long as the value. A name is a list of parts that are written
+//! first, so it is returned as a `Vec<u8>` that the caller owns, and the caller reads the name
+//! from it.
 //!
 //! ```rust
 //! let octets = name(alloc, attributes)?;

@@ -1,4 +1,4 @@
-//! Names, from the types and texts of their attributes (RFC 5280 section 4.1.2.4).
+//! Names from the types and texts of their attributes (RFC 5280 section 4.1.2.4).
 
 ghost use Rattle.std.specs.Prelude.{◌≡◌, IfOk, IfErr};
 ghost use Rattle.der_build.specs.Names.{name_octets, part_octets, RefusesName, RefusesPart};
@@ -9,13 +9,13 @@ use der_opaque::Any;
 use der_tlv::{Error, ErrorKind, Tag};
 use std::alloc::Global;
 
-/// The encoding of a name of these attributes, one in each of its parts, in this order.
+/// Returns the encoding of a name of these attributes, one in each of its parts, in this order.
 ///
 /// commonName `mill` is encoded as 30 0F 31 0D 30 0B 06 03 55 04 03 0C 04 6D 69 6C 6C.
 ///
 /// # Errors
-/// As `attribute` refuses one of the attributes; `ErrorKind::Overflow` (9) where the name has more than
-/// 4294967295 octets; `ErrorKind::Memory` (1) where memory runs out.
+/// The errors of `attribute` for one of the attributes; `ErrorKind::Overflow` (9) if the name has
+/// more than 4294967295 octets; `ErrorKind::Memory` (1) if memory runs out.
 pub fn name<'a>(alloc: Global, attributes: &[TextAttribute<'a>]) -> Result<Vec<u8>, Error>
     ensures octets { IfOk result (λ octets. octets.items ≡ name_octets attributes.now) }
     ensures refused { IfErr result (λ e. RefusesName attributes.now e.kind) }
@@ -35,7 +35,7 @@ pub fn name<'a>(alloc: Global, attributes: &[TextAttribute<'a>]) -> Result<Vec<u
     parts.to_der(alloc)
 }
 
-/// A part of a name, of one attribute.
+/// Makes a part of a name from one attribute.
 fn part<'a>(alloc: Global, only: TextAttribute<'a>) -> Result<Any, Error>
     ensures octets { IfOk result (λ part. ⟦<Any as Form>⟧.encoding part ≡ part_octets only.entry) }
     ensures refused { IfErr result (λ e. RefusesPart only.entry e.kind) }

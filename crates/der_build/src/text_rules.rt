@@ -11,7 +11,7 @@ use der_pkix::name::constants::{
 use der_tlv::Tag;
 use der_verify::{character_count, may_have};
 
-/// The tag of the string that holds the text of an attribute.
+/// Returns the tag of the string that holds the text of an attribute.
 #[tactic(auto, unfolding(crate::specs::Attributes::string_tag, der_verify::specs::Bounds::is_id_at))]
 pub(crate) fn string_tag(type_: &[u8]) -> Tag
     ensures { result ≡ string_tag type_.now }
@@ -28,8 +28,8 @@ pub(crate) fn string_tag(type_: &[u8]) -> Tag
     }
 }
 
-/// Whether the string of the attribute can hold the text, and the text has neither too few
-/// characters nor too many.
+/// Returns whether the string of the attribute can hold the text, and the text has neither too
+/// few characters nor too many.
 #[tactic(auto, unfolding(crate::specs::Attributes::fits))]
 pub(crate) fn fits(type_: &[u8], text: &[u8]) -> bool
     requires { length text.now < 2 ^ 32 }
@@ -38,7 +38,7 @@ pub(crate) fn fits(type_: &[u8], text: &[u8]) -> bool
     can_hold(string_tag(type_), text) && may_have(type_, character_count(text))
 }
 
-/// Whether a string with this tag can hold the text, which is UTF-8.
+/// Returns whether a string with this tag can hold the text, which is UTF-8.
 fn can_hold(tag: Tag, text: &[u8]) -> bool
     requires { length text.now < 2 ^ 32 }
     ensures { result ≡ can_hold tag text.now }

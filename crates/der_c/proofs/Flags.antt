@@ -1,10 +1,10 @@
--- Flags that are gone through from the last to the first.
+-- Flags in order from the last to the first.
 use Rattle.std.proofs.Common.{◌≡◌, ℕ, suc, ◌+◌, ◌*◌, ◌^◌, ◌-◌, ◌<◌, ◌≤◌, Bool, true, false, List, [], ◌∷◌, length, take, drop, get_or, sym, ap, subst, ◌∙◌, arith}
 use Rattle.std.proofs.Math.Nat.{pow-le-pow_right, two-pow-succ}
 use Rattle.std.proofs.Math.Seq.{take-length}
 use Rattle.der_c.specs.Bits.{bit, bits_before}
 
--- the flags that are left come before those that the number has, of which there are so many
+-- `bits` is the number of the flags before `left`, and is less than 2 to the power of their count
 abbrev pub HasBits : List Bool → List Bool → ℕ → Type 0
 HasBits flags left bits = (length left ≤ length flags) × (length flags < 32 → (bits < 2 ^ (length flags - length left)) × (bits_before bits left ≡ bits_before 0 flags))
 
@@ -12,7 +12,7 @@ bit_below : (flag : Bool) → bit flag < 2
 bit_below true = omega arith
 bit_below false = omega arith
 
--- one flag more
+-- the bound after one more flag
 more_bits : (n k : ℕ) (flag : Bool) → k < 31 → n < 2 ^ k → (bit flag + 2 * n < 2 ^ 32) × (bit flag + 2 * n < 2 ^ (k + 1))
 more_bits n k flag few below =
     let one = bit_below flag in

@@ -1,4 +1,4 @@
--- What stands somewhere ends within the octets, and so do its contents octets and what stands first in it.
+-- A byte range that was found ends within the octets: that of an encoding, of its contents octets, or of the first encoding in them.
 use Rattle.std.proofs.Common.{◌≡◌, ℕ, ◌+◌, ◌≤◌, ◌++◌, List, true, length, refl, ap, ◌∙◌, arith}
 use Rattle.std.proofs.lemmas.List.{length-append}
 use Rattle.der_tlv.specs.HeaderOctets.{header_octets}
@@ -14,7 +14,7 @@ inside octets n own s =
     let at = s.offset_is in
     omega arith
 
--- contents octets that were found are handed on
+-- contents octets that were found are returned unchanged
 pub contents_within : (octets : List ℕ) (place found given : Place) → HoldsContents octets place found → (found.offset + found.length ≤ length octets → given ≡ found) → HoldsContents octets place given
 contents_within octets place found given holds kept own e s l =
     let h = holds own e s l in
@@ -26,7 +26,7 @@ contents_within octets place found given holds kept own e s l =
     let same = kept ends in
     (ap (λ p. p.offset) same ∙ begins, ap (λ p. p.length) same ∙ lasts)
 
--- and so is what stands first
+-- the first encoding in the contents octets is returned unchanged
 pub first_within : (octets : List ℕ) (start found given : Place) → EntersContents octets 0 start → Follows octets start true found → (found.offset + found.length ≤ length octets → given ≡ found) → HoldsFirst octets given
 first_within octets start found given enters follows kept tag first others is_tag e octets_are fits =
     let head = header_octets tag (length (first ++ others)) in
@@ -46,7 +46,7 @@ first_within octets start found given enters follows kept tag first others is_ta
     let offset : found.offset ≡ length head = omega arith in
     (ap (λ p. p.offset) same ∙ offset, ap (λ p. p.length) same ∙ lasts)
 
--- and so is what stands behind a place
+-- the encoding after a byte range is returned unchanged
 pub next_within : (octets : List ℕ) (last found given : Place) → Follows octets last true found → (found.offset + found.length ≤ length octets → given ≡ found) → Follows octets last true given
 next_within octets last found given follows kept own e s =
     let h = follows own e s in

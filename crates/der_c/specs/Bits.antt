@@ -6,12 +6,12 @@ abbrev pub bit : Bool → ℕ
 bit true = 1
 bit false = 0
 
--- the first as 1, the next as 2, then 4, and so on
+-- the first flag as 1, the next as 2, then 4, and so on
 abbrev pub bits : List Bool → ℕ
 bits [] = 0
 bits (flag ∷ flags) = bit flag + 2 * bits flags
 
--- the same of flags that are told from the last to the first, before those that this number has
+-- the number of flags that are given from the last to the first, with the bits of `n` after them
 abbrev pub bits_before : ℕ → List Bool → ℕ
 bits_before n [] = n
 bits_before n (flag ∷ flags) = bits_before (bit flag + 2 * n) flags

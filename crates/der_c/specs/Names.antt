@@ -1,4 +1,4 @@
--- The types by their names: those of `certview lines`, and those of `derview`.
+-- The types by their names: the names of `certview lines` and those of `derview`.
 use Rattle.der_lines.specs.Tables.{Table, or_else}
 use Rattle.certview_names.specs.Messages.{message_of}
 use Rattle.derview_names.specs.Names.{type_of}

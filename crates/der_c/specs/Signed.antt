@@ -7,6 +7,6 @@ use Rattle.der_elem.specs.Accepting.{Fits}
 use Rattle.der_places.specs.declared.place.Place.{Place}
 use Rattle.der_places.specs.Walking.{IsEncoding}
 
--- the place of the encoding that stands first among the contents octets
+-- the byte range of the first encoding in the contents octets
 abbrev pub HoldsFirst : List ℕ → Place → Type 0
 HoldsFirst octets place = (tag : Tag) (first others : List ℕ) → IsTag tag → IsEncoding first → octets ≡ tlv tag (first ++ others) → Fits octets → (place.offset ≡ length (header_octets tag (length (first ++ others)))) × (place.length ≡ length first)

@@ -14,9 +14,10 @@ use der_places::encryption::{Pbes2ParamsPlaces, Pbkdf2ParamsPlaces};
 use der_places::{AlgorithmIdentifierPlaces, Placed};
 use std::alloc::Global;
 
-/// Reads all octets as an AlgorithmIdentifier (RFC 5280 4.1.1.2), and writes the byte ranges of its fields.
+/// Reads all octets as an AlgorithmIdentifier (RFC 5280 4.1.1.2), and writes the byte ranges of
+/// its fields.
 ///
-/// The answer is 0; or the number of the first fault, and `out` is unchanged.
+/// Returns 0, or the number of the first error; `out` is then unchanged.
 #[unsafe(no_mangle)]
 pub extern "C" fn der_algorithm_identifier<'a>(
     alloc: Global,
@@ -31,9 +32,10 @@ pub extern "C" fn der_algorithm_identifier<'a>(
     read_message::<AlgorithmIdentifierPlaces, AlgorithmIdentifier<'a>>(alloc, octets, out, fault)
 }
 
-/// Reads all octets as an RSASSA-PSS-params (RFC 4055 3.1), and writes the byte ranges of its fields.
+/// Reads all octets as an RSASSA-PSS-params (RFC 4055 3.1), and writes the byte ranges of its
+/// fields.
 ///
-/// The answer is 0; or the number of the first fault, and `out` is unchanged.
+/// Returns 0, or the number of the first error; `out` is then unchanged.
 #[unsafe(no_mangle)]
 pub extern "C" fn der_rsassa_pss_params<'a>(
     alloc: Global,
@@ -48,9 +50,10 @@ pub extern "C" fn der_rsassa_pss_params<'a>(
     read_message::<RsassaPssParamsPlaces, RsassaPssParams<'a>>(alloc, octets, out, fault)
 }
 
-/// Reads all octets as an ECDSA-Sig-Value (RFC 3279 2.2.3), and writes the byte ranges of its fields.
+/// Reads all octets as an ECDSA-Sig-Value (RFC 3279 2.2.3), and writes the byte ranges of its
+/// fields.
 ///
-/// The answer is 0; or the number of the first fault, and `out` is unchanged.
+/// Returns 0, or the number of the first error; `out` is then unchanged.
 #[unsafe(no_mangle)]
 pub extern "C" fn der_ecdsa_sig_value<'a>(
     alloc: Global,
@@ -67,7 +70,7 @@ pub extern "C" fn der_ecdsa_sig_value<'a>(
 
 /// Reads all octets as a PBES2-params (RFC 8018 A.4), and writes the byte ranges of its fields.
 ///
-/// The answer is 0; or the number of the first fault, and `out` is unchanged.
+/// Returns 0, or the number of the first error; `out` is then unchanged.
 #[unsafe(no_mangle)]
 pub extern "C" fn der_pbes2_params<'a>(
     alloc: Global,
@@ -84,7 +87,7 @@ pub extern "C" fn der_pbes2_params<'a>(
 
 /// Reads all octets as a PBKDF2-params (RFC 8018 A.2), and writes the byte ranges of its fields.
 ///
-/// The answer is 0; or the number of the first fault, and `out` is unchanged.
+/// Returns 0, or the number of the first error; `out` is then unchanged.
 #[unsafe(no_mangle)]
 pub extern "C" fn der_pbkdf2_params<'a>(
     alloc: Global,

@@ -1,4 +1,4 @@
-//! Where the fields of an attribute stand, of those that stand one behind another.
+//! The byte ranges of the fields of attributes, which are read one after another.
 
 ghost use Rattle.std.specs.Prelude.{◌≡◌, take};
 ghost use Rattle.der_places.specs.Layout.{LaidOut};
@@ -12,21 +12,21 @@ use der_places::name::{AttributePlaces, AttributeTypeAndValuePlaces};
 use der_places::{Place, Placed, places_of};
 use std::alloc::Global;
 
-/// Where the fields of an attribute of a name stand.
+/// The byte ranges of the fields of an attribute of a name.
 #[repr(C)]
 #[derive(Clone, Copy, Debug, PartialEq, Eq)]
 pub struct AttributeTypeAndValueAt {
-    /// The whole attribute; behind it the next one begins.
+    /// The whole attribute; the next one begins after it.
     pub whole: Place,
     /// Its fields.
     pub fields: AttributeTypeAndValuePlaces,
 }
 
-/// Reads the AttributeTypeAndValue that stands at the front of the octets (RFC 5280 4.1.2.4), and says
-/// where its fields stand. So who has a part of a name reads one, and then what is behind it.
+/// Reads the AttributeTypeAndValue at the front of the octets (RFC 5280 4.1.2.4), and writes the
+/// byte ranges of its fields. The next attribute of the part of a name begins after it.
 ///
-/// The answer is 0, and `out` has the places; or the number of the first fault, and `out` is as it
-/// was.
+/// Returns 0 and writes the byte ranges to `out`, or returns the number of the first error and
+/// leaves `out` unchanged.
 #[unsafe(no_mangle)]
 pub extern "C" fn der_attribute_type_and_value<'a>(
     alloc: Global,
@@ -48,7 +48,7 @@ pub extern "C" fn der_attribute_type_and_value<'a>(
     }
 }
 
-/// Where the fields of an attribute stand that was read from so many octets at the front.
+/// Returns the byte ranges of an attribute that was read from the first `length` octets.
 fn attribute_type_and_value_at<'a>(
     value: &AttributeTypeAndValue<'a>,
     octets: &[u8],
@@ -65,22 +65,22 @@ fn attribute_type_and_value_at<'a>(
     }
 }
 
-/// Where the fields of an attribute with a set of values stand.
+/// The byte ranges of the fields of an attribute with a set of values.
 #[repr(C)]
 #[derive(Clone, Copy, Debug, PartialEq, Eq)]
 pub struct AttributeAt {
-    /// The whole attribute; behind it the next one begins.
+    /// The whole attribute; the next one begins after it.
     pub whole: Place,
     /// Its fields.
     pub fields: AttributePlaces,
 }
 
-/// Reads the Attribute that stands at the front of the octets (RFC 5652 5.3, RFC 2986 4.1), and says
-/// where its fields stand. So who has the attributes of a signer, of a request or of a private key reads
-/// one, and then what is behind it.
+/// Reads the Attribute at the front of the octets (RFC 5652 5.3, RFC 2986 4.1), and writes the
+/// byte ranges of its fields. The next attribute of the signer, the request or the private key
+/// begins after it.
 ///
-/// The answer is 0, and `out` has the places; or the number of the first fault, and `out` is as it
-/// was.
+/// Returns 0 and writes the byte ranges to `out`, or returns the number of the first error and
+/// leaves `out` unchanged.
 #[unsafe(no_mangle)]
 pub extern "C" fn der_attribute<'a>(
     alloc: Global,
@@ -102,7 +102,7 @@ pub extern "C" fn der_attribute<'a>(
     }
 }
 
-/// Where the fields of an attribute stand that was read from so many octets at the front.
+/// Returns the byte ranges of an attribute that was read from the first `length` octets.
 fn attribute_at<'a>(value: &Attribute<'a>, octets: &[u8], length: u32) -> AttributeAt
     ensures fields { FrontRead ⟦<Attribute<'a> as Form>⟧ octets.now value.now length
         → LaidOut (⟦<Attribute<'a> as Placed>⟧.layout value.now) 0 (⟦<Attribute<'a> as Placed>⟧.listed result.fields) (take length octets.now) }

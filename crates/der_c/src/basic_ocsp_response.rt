@@ -1,4 +1,4 @@
-//! Where the fields of a signed answer about the status of certificates stand.
+//! The byte ranges of the fields of a signed OCSP response.
 
 ghost use Rattle.std.specs.Prelude.{◌≡◌};
 ghost use Rattle.der_elem.specs.Decoding.{AllRead};
@@ -16,23 +16,24 @@ use der_places::ocsp::{BasicOcspResponsePlaces, ResponseDataPlaces};
 use der_places::{Placed, places_of};
 use std::alloc::Global;
 
-/// Where the fields of a BasicOCSPResponse stand, and what some of them say.
+/// The byte ranges of the fields of a BasicOCSPResponse, and the values of some fields.
 #[repr(C)]
 #[derive(Clone, Copy, Debug, PartialEq, Eq)]
 pub struct BasicOcspResponseAt {
-    /// The four fields of the answer.
+    /// The four fields of the response.
     pub parts: BasicOcspResponsePlaces,
-    /// The five fields of what is signed.
+    /// The five fields of the signed part.
     pub tbs: ResponseDataPlaces,
     /// `producedAt`, in seconds from 1970-01-01T00:00:00Z.
     pub produced_at: u64,
 }
 
-/// Reads octets as a BasicOCSPResponse (RFC 6960 4.2.1), all of them, and says where its fields stand:
-/// the contents octets of `response`, where `responseType` is id-pkix-ocsp-basic.
+/// Reads all octets as a BasicOCSPResponse (RFC 6960 4.2.1), and writes the byte ranges of its
+/// fields. These octets are the contents octets of `response` where `responseType` is
+/// id-pkix-ocsp-basic.
 ///
-/// The answer is 0, and `out` has the places; or the number of the first fault, and `out` is as it
-/// was.
+/// Returns 0 and writes the byte ranges to `out`, or returns the number of the first error and
+/// leaves `out` unchanged.
 #[unsafe(no_mangle)]
 pub extern "C" fn der_basic_ocsp_response<'a>(
     alloc: Global,
@@ -55,7 +56,7 @@ pub extern "C" fn der_basic_ocsp_response<'a>(
     }
 }
 
-/// Where the fields of a signed answer stand that was read from these octets.
+/// Returns the byte ranges of a signed response that was read from these octets.
 fn basic_ocsp_response_at<'a>(value: &BasicOcspResponse<'a>, octets: &[u8]) -> BasicOcspResponseAt
     ensures parts { AllRead ⟦<BasicOcspResponse<'a> as Form>⟧ octets.now value.now
         → LaidOut (⟦<BasicOcspResponse<'a> as Placed>⟧.layout value.now) 0 (⟦<BasicOcspResponse<'a> as Placed>⟧.listed result.parts) octets.now }

@@ -3,8 +3,8 @@
 ghost use Rattle.std.specs.Prelude.{◌≡◌, ◌+◌, ◌*◌, ◌<◌, ◌^◌, length};
 ghost use Rattle.der_c.specs.Bits.{bit, bits_before};
 
-/// The flags as the bits of a number. They are told from the last, which is the greatest, to the first,
-/// which is 1.
+/// Returns the flags as the bits of a number. The flags are given from the last, which is the
+/// greatest bit, to the first, which is 1.
 pub(crate) fn number_of_flags(flags: &[bool]) -> u32
     ensures { length flags.now < 32 → result ≡ bits_before 0 flags.now }
 {
@@ -17,14 +17,14 @@ pub(crate) fn number_of_flags(flags: &[bool]) -> u32
     bits
 }
 
-/// A truth value as 1 or 0.
+/// Returns a truth value as 1 or 0.
 pub(crate) fn number_of_flag(flag: bool) -> u32
     ensures { result ≡ bit flag }
 {
     u32::from(flag)
 }
 
-/// A flag before those that a number has.
+/// Returns the number of a flag and the flags after it, which are `bits`.
 fn with_flag(bits: u32, flag: bool) -> u32
     ensures { bit flag + 2 * bits < 2 ^ 32 → result ≡ bit flag + 2 * bits }
 {

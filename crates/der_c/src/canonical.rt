@@ -1,4 +1,4 @@
-//! The canonical encoding of a value, by the name of its type.
+//! The canonical encoding of a value by the name of its type.
 
 ghost use Rattle.der_c.specs.Names.{type_named};
 ghost use Rattle.der_c.specs.Rooms.{AnswersNamed};
@@ -11,18 +11,18 @@ use der_tlv::Error;
 use derview_names::TypeNames;
 use std::alloc::Global;
 
-/// Reads octets as a value of the type with a name, all of them, and writes the value's one encoding to
-/// the front of a room, and how many octets it has. The names are those of `derview` and of
-/// `certview lines` (`docs/FORMAT.md`).
+/// Reads all octets as a value of the type with a name, and writes the canonical encoding to the
+/// front of a buffer, and its length. The names are those of `derview` and of `certview lines`
+/// (`docs/FORMAT.md`).
 ///
-/// The encoding is the octets that were read, but of the types of sets that are read in another order
-/// than DER's, and written in order.
+/// The encoding is the octets that were read, except for the types of sets that are read in any
+/// order and written in order.
 ///
-/// The answer is 0; or the number of the first fault, or 1 where memory runs out, or 102 where no type has
-/// the name, and the room and the count are as they were; or 103 where the room is too short, and then the
-/// count says how many octets it should have.
+/// Returns 0; the number of the first error, 1 if memory runs out, or 102 if no type has the
+/// name, with the buffer and the count unchanged; or 103 if the buffer is too short, with the
+/// length that it should have in the count.
 ///
-/// Of a type that takes no memory to be read, the answer is 1 only where the octets encode a value.
+/// For a type that takes no memory to be read, the result is 1 only if the octets encode a value.
 #[unsafe(no_mangle)]
 pub extern "C" fn der_canonical(
     alloc: Global,
@@ -37,7 +37,7 @@ pub extern "C" fn der_canonical(
     write_named::<AllNames>(alloc, name, octets, room, count, fault)
 }
 
-/// The same by the types of a table.
+/// Writes the canonical encoding by the types of a table.
 fn write_named<N: Names>(
     alloc: Global,
     name: &[u8],
@@ -56,7 +56,7 @@ fn write_named<N: Names>(
     }
 }
 
-/// The names of messages, and those of the types of `der_asn1_types`.
+/// The names of messages and of the types of `der_asn1_types`.
 struct AllNames;
 
 impl Names for AllNames {

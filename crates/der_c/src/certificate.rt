@@ -1,4 +1,4 @@
-//! Where the fields of a certificate stand.
+//! The byte ranges of the fields of a certificate.
 
 ghost use Rattle.std.specs.Prelude.{◌≡◌};
 ghost use Rattle.der_elem.specs.Decoding.{AllRead};
@@ -17,26 +17,26 @@ use der_places::certificate::{CertificatePlaces, TbsCertificatePlaces};
 use der_places::{Placed, places_of};
 use std::alloc::Global;
 
-/// Where the fields of a certificate stand, and what some of them say.
+/// The byte ranges of the fields of a certificate, and the values of some fields.
 #[repr(C)]
 #[derive(Clone, Copy, Debug, PartialEq, Eq)]
 pub struct CertificateAt {
     /// The three fields of the certificate.
     pub parts: CertificatePlaces,
-    /// The ten fields of what is signed.
+    /// The ten fields of the signed part.
     pub tbs: TbsCertificatePlaces,
     /// `notBefore`, in seconds from 1970-01-01T00:00:00Z.
     pub not_before: u64,
-    /// `notAfter`.
+    /// `notAfter`, in seconds from 1970-01-01T00:00:00Z.
     pub not_after: u64,
     /// 0 for v1, 1 for v2, 2 for v3.
     pub version: u64,
 }
 
-/// Reads octets as a certificate (RFC 5280 4.1), all of them, and says where its fields stand.
+/// Reads all octets as a certificate (RFC 5280 4.1), and writes the byte ranges of its fields.
 ///
-/// The answer is 0, and `out` has the places; or the number of the first fault, and `out` is as it
-/// was.
+/// Returns 0 and writes the byte ranges to `out`, or returns the number of the first error and
+/// leaves `out` unchanged.
 #[unsafe(no_mangle)]
 pub extern "C" fn der_certificate<'a>(
     alloc: Global,
@@ -61,7 +61,7 @@ pub extern "C" fn der_certificate<'a>(
     }
 }
 
-/// Where the fields of a certificate stand that was read from these octets.
+/// Returns the byte ranges of a certificate that was read from these octets.
 fn certificate_at<'a>(value: &Certificate<'a>, octets: &[u8]) -> CertificateAt
     ensures parts { AllRead ⟦<Certificate<'a> as Form>⟧ octets.now value.now
         → LaidOut (⟦<Certificate<'a> as Placed>⟧.layout value.now) 0 (⟦<Certificate<'a> as Placed>⟧.listed result.parts) octets.now }

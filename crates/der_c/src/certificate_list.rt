@@ -1,4 +1,4 @@
-//! Where the fields of a list of revoked certificates stand.
+//! The byte ranges of the fields of a list of revoked certificates.
 
 ghost use Rattle.std.specs.Prelude.{◌≡◌};
 ghost use Rattle.der_elem.specs.Decoding.{AllRead};
@@ -16,27 +16,28 @@ use der_places::crl::{CertificateListPlaces, TbsCertListPlaces};
 use der_places::{Placed, places_of};
 use std::alloc::Global;
 
-/// Where the fields of a list of revoked certificates stand, and what some of them say.
+/// The byte ranges of the fields of a list of revoked certificates, and the values of some
+/// fields.
 #[repr(C)]
 #[derive(Clone, Copy, Debug, PartialEq, Eq)]
 pub struct CertificateListAt {
     /// The three fields of the list.
     pub parts: CertificateListPlaces,
-    /// The seven fields of what is signed.
+    /// The seven fields of the signed part.
     pub tbs: TbsCertListPlaces,
     /// `thisUpdate`, in seconds from 1970-01-01T00:00:00Z.
     pub this_update: u64,
-    /// `nextUpdate`; 0 where it is absent.
+    /// `nextUpdate`, or 0 if it is absent.
     pub next_update: u64,
-    /// 0 for v1, where the field is absent; 1 for v2.
+    /// 0 for v1, if the field is absent; 1 for v2.
     pub version: u64,
 }
 
-/// Reads octets as a list of revoked certificates (RFC 5280 5.1), all of them, and says where its fields
-/// stand.
+/// Reads all octets as a list of revoked certificates (RFC 5280 5.1), and writes the byte ranges
+/// of its fields.
 ///
-/// The answer is 0, and `out` has the places; or the number of the first fault, and `out` is as it
-/// was.
+/// Returns 0 and writes the byte ranges to `out`, or returns the number of the first error and
+/// leaves `out` unchanged.
 #[unsafe(no_mangle)]
 pub extern "C" fn der_certificate_list<'a>(
     alloc: Global,
@@ -61,7 +62,7 @@ pub extern "C" fn der_certificate_list<'a>(
     }
 }
 
-/// Where the fields of a list stand that was read from these octets.
+/// Returns the byte ranges of a list that was read from these octets.
 fn certificate_list_at<'a>(value: &CertificateList<'a>, octets: &[u8]) -> CertificateListAt
     ensures parts { AllRead ⟦<CertificateList<'a> as Form>⟧ octets.now value.now
         → LaidOut (⟦<CertificateList<'a> as Placed>⟧.layout value.now) 0 (⟦<CertificateList<'a> as Placed>⟧.listed result.parts) octets.now }

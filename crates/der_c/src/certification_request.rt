@@ -1,4 +1,4 @@
-//! Where the fields of a request for a certificate stand.
+//! The byte ranges of the fields of a request for a certificate.
 
 ghost use Rattle.std.specs.Prelude.{◌≡◌};
 ghost use Rattle.der_elem.specs.Decoding.{AllRead};
@@ -13,21 +13,21 @@ use der_places::request::{CertificationRequestInfoPlaces, CertificationRequestPl
 use der_places::{Placed, places_of};
 use std::alloc::Global;
 
-/// Where the fields of a request for a certificate stand.
+/// The byte ranges of the fields of a request for a certificate.
 #[repr(C)]
 #[derive(Clone, Copy, Debug, PartialEq, Eq)]
 pub struct CertificationRequestAt {
     /// The three fields of the request.
     pub parts: CertificationRequestPlaces,
-    /// The four fields of what is signed.
+    /// The four fields of the signed part.
     pub info: CertificationRequestInfoPlaces,
 }
 
-/// Reads octets as a request for a certificate (RFC 2986 4.2), all of them, and says where its fields
-/// stand.
+/// Reads all octets as a request for a certificate (RFC 2986 4.2), and writes the byte ranges of
+/// its fields.
 ///
-/// The answer is 0, and `out` has the places; or the number of the first fault, and `out` is as it
-/// was.
+/// Returns 0 and writes the byte ranges to `out`, or returns the number of the first error and
+/// leaves `out` unchanged.
 #[unsafe(no_mangle)]
 pub extern "C" fn der_certification_request<'a>(
     alloc: Global,
@@ -49,7 +49,7 @@ pub extern "C" fn der_certification_request<'a>(
     }
 }
 
-/// Where the fields of a request stand that was read from these octets.
+/// Returns the byte ranges of a request that was read from these octets.
 fn certification_request_at<'a>(
     value: &CertificationRequest<'a>,
     octets: &[u8],

@@ -1,4 +1,4 @@
-//! Places within what stands at a place.
+//! Byte ranges within an encoding at a byte range.
 
 ghost use Rattle.std.specs.Prelude.{◌≡◌, ◌+◌, ◌≤◌, length, true};
 ghost use Rattle.der_places.specs.Walking.{Follows, HoldsContents};
@@ -6,11 +6,11 @@ ghost use Rattle.der_c.specs.Signed.{HoldsFirst};
 
 use der_places::{Place, contents_of, next_place, start_of_contents};
 
-/// Where the contents octets stand of the encoding at a place, as of an OCTET STRING or of an explicit
-/// tag.
+/// Returns the byte range of the contents octets of the encoding at a byte range, such as those
+/// of an OCTET STRING or of an explicit tag.
 ///
-/// The place is one that a call of this library wrote for these octets. Of another the answer is some
-/// place within the octets.
+/// The byte range is one that a call of this library wrote for these octets. For any other, the
+/// result is some byte range within the octets.
 #[unsafe(no_mangle)]
 pub extern "C" fn der_contents(octets: &[u8], place: &Place) -> Place
     ensures contents { HoldsContents octets.now place.now result }
@@ -19,12 +19,12 @@ pub extern "C" fn der_contents(octets: &[u8], place: &Place) -> Place
     within(octets, contents_of(octets, *place))
 }
 
-/// Where the octets stand that a signature covers (RFC 5280 4.1.1.3): the first field of a certificate,
-/// of a list of revoked ones, of a request (RFC 2986 4.2), of an answer about the status of certificates
-/// (RFC 6960 4.2.1).
+/// Returns the byte range of the octets that a signature covers (RFC 5280 4.1.1.3): the first
+/// field of a certificate, of a list of revoked certificates, of a request (RFC 2986 4.2) or of
+/// an OCSP response (RFC 6960 4.2.1).
 ///
-/// Nothing but three headers is read. Of octets that are no such message the answer is some place
-/// within them.
+/// Only three headers are read. For octets that are no such message, the result is some byte
+/// range within them.
 #[unsafe(no_mangle)]
 pub extern "C" fn der_signed_octets(octets: &[u8]) -> Place
     ensures first { HoldsFirst octets.now result }
@@ -34,10 +34,11 @@ pub extern "C" fn der_signed_octets(octets: &[u8]) -> Place
     within(octets, next_place(octets, start, true))
 }
 
-/// Where the encoding stands that begins where a place ends: so who has a place of no octets at the
-/// front of contents octets has the first value in them, and with a value's place the next one.
+/// Returns the byte range of the encoding that begins where a byte range ends. After an empty
+/// byte range at the front of contents octets, this is the first value in them; after the byte
+/// range of a value, it is the next value.
 ///
-/// Of octets that hold no encoding there the answer is some place within the octets.
+/// If the octets have no encoding there, the result is some byte range within them.
 #[unsafe(no_mangle)]
 pub extern "C" fn der_next_encoding(octets: &[u8], last: &Place) -> Place
     ensures follows { Follows octets.now last.now true result }
@@ -46,7 +47,8 @@ pub extern "C" fn der_next_encoding(octets: &[u8], last: &Place) -> Place
     within(octets, next_place(octets, *last, true))
 }
 
-/// A place that ends within the octets; in the stead of another, that of no octets at the front.
+/// Returns a byte range that ends within the octets unchanged, and an empty one at the front for
+/// any other.
 fn within(octets: &[u8], place: Place) -> Place
     ensures same { place.offset + place.length ≤ length octets.now → result ≡ place }
     ensures within { result.offset + result.length ≤ length octets.now }

@@ -1,4 +1,4 @@
-//! Enveloped and encrypted messages, and how a message names a certificate.
+//! Enveloped and encrypted messages, and identifiers of certificates in messages.
 
 ghost use Rattle.der_places.specs.Layout.{LaidOut};
 ghost use Rattle.der_c.specs.Answers.{Answers};
@@ -17,9 +17,10 @@ use der_places::enveloped::{EnvelopedDataPlaces, KeyTransRecipientInfoPlaces};
 use der_places::ess::{EssCertIdv2Places, SigningCertificateV2Places};
 use std::alloc::Global;
 
-/// Reads all octets as an IssuerAndSerialNumber (RFC 5652 10.2.4), and writes the byte ranges of its fields.
+/// Reads all octets as an IssuerAndSerialNumber (RFC 5652 10.2.4), and writes the byte ranges of
+/// its fields.
 ///
-/// The answer is 0; or the number of the first fault, and `out` is unchanged.
+/// Returns 0, or the number of the first error; `out` is then unchanged.
 #[unsafe(no_mangle)]
 pub extern "C" fn der_issuer_and_serial_number<'a>(
     alloc: Global,
@@ -38,7 +39,7 @@ pub extern "C" fn der_issuer_and_serial_number<'a>(
 
 /// Reads all octets as an EnvelopedData (RFC 5652 6.1), and writes the byte ranges of its fields.
 ///
-/// The answer is 0; or the number of the first fault, and `out` is unchanged.
+/// Returns 0, or the number of the first error; `out` is then unchanged.
 #[unsafe(no_mangle)]
 pub extern "C" fn der_enveloped_data<'a>(
     alloc: Global,
@@ -53,9 +54,10 @@ pub extern "C" fn der_enveloped_data<'a>(
     read_message::<EnvelopedDataPlaces, EnvelopedData<'a>>(alloc, octets, out, fault)
 }
 
-/// Reads all octets as an EncryptedContentInfo (RFC 5652 6.1), and writes the byte ranges of its fields.
+/// Reads all octets as an EncryptedContentInfo (RFC 5652 6.1), and writes the byte ranges of its
+/// fields.
 ///
-/// The answer is 0; or the number of the first fault, and `out` is unchanged.
+/// Returns 0, or the number of the first error; `out` is then unchanged.
 #[unsafe(no_mangle)]
 pub extern "C" fn der_encrypted_content_info<'a>(
     alloc: Global,
@@ -70,9 +72,10 @@ pub extern "C" fn der_encrypted_content_info<'a>(
     read_message::<EncryptedContentInfoPlaces, EncryptedContentInfo<'a>>(alloc, octets, out, fault)
 }
 
-/// Reads all octets as a KeyTransRecipientInfo (RFC 5652 6.2.1), and writes the byte ranges of its fields.
+/// Reads all octets as a KeyTransRecipientInfo (RFC 5652 6.2.1), and writes the byte ranges of
+/// its fields.
 ///
-/// The answer is 0; or the number of the first fault, and `out` is unchanged.
+/// Returns 0, or the number of the first error; `out` is then unchanged.
 #[unsafe(no_mangle)]
 pub extern "C" fn der_key_trans_recipient_info<'a>(
     alloc: Global,
@@ -89,9 +92,10 @@ pub extern "C" fn der_key_trans_recipient_info<'a>(
     )
 }
 
-/// Reads all octets as an EncryptedData (RFC 5652 section 8), and writes the byte ranges of its fields.
+/// Reads all octets as an EncryptedData (RFC 5652 section 8), and writes the byte ranges of its
+/// fields.
 ///
-/// The answer is 0; or the number of the first fault, and `out` is unchanged.
+/// Returns 0, or the number of the first error; `out` is then unchanged.
 #[unsafe(no_mangle)]
 pub extern "C" fn der_encrypted_data<'a>(
     alloc: Global,
@@ -106,9 +110,10 @@ pub extern "C" fn der_encrypted_data<'a>(
     read_message::<EncryptedDataPlaces, EncryptedData<'a>>(alloc, octets, out, fault)
 }
 
-/// Reads all octets as a SigningCertificateV2 (RFC 5035 section 3), and writes the byte ranges of its fields.
+/// Reads all octets as a SigningCertificateV2 (RFC 5035 section 3), and writes the byte ranges of
+/// its fields.
 ///
-/// The answer is 0; or the number of the first fault, and `out` is unchanged.
+/// Returns 0, or the number of the first error; `out` is then unchanged.
 #[unsafe(no_mangle)]
 pub extern "C" fn der_signing_certificate_v2<'a>(
     alloc: Global,
@@ -123,9 +128,10 @@ pub extern "C" fn der_signing_certificate_v2<'a>(
     read_message::<SigningCertificateV2Places, SigningCertificateV2<'a>>(alloc, octets, out, fault)
 }
 
-/// Reads all octets as an ESSCertIDv2 (RFC 5035 section 4), and writes the byte ranges of its fields.
+/// Reads all octets as an ESSCertIDv2 (RFC 5035 section 4), and writes the byte ranges of its
+/// fields.
 ///
-/// The answer is 0; or the number of the first fault, and `out` is unchanged.
+/// Returns 0, or the number of the first error; `out` is then unchanged.
 #[unsafe(no_mangle)]
 pub extern "C" fn der_ess_cert_idv2<'a>(
     alloc: Global,

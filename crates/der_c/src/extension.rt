@@ -1,4 +1,4 @@
-//! Where the fields of an extension stand, of those that stand one behind another.
+//! The byte ranges of the fields of extensions, which are read one after another.
 
 ghost use Rattle.std.specs.Prelude.{◌≡◌, if◌then◌else◌, take};
 ghost use Rattle.der_pkix.specs.Certificate.Extension as extension;
@@ -13,23 +13,23 @@ use der_places::certificate::ExtensionPlaces;
 use der_places::{Place, Placed, places_of};
 use std::alloc::Global;
 
-/// Where the fields of an extension stand, and whether it is critical.
+/// The byte ranges of the fields of an extension, and whether it is critical.
 #[repr(C)]
 #[derive(Clone, Copy, Debug, PartialEq, Eq)]
 pub struct ExtensionAt {
-    /// The whole extension; behind it the next one begins.
+    /// The whole extension; the next one begins after it.
     pub whole: Place,
     /// Its fields.
     pub fields: ExtensionPlaces,
-    /// 1 where it is critical, else 0.
+    /// 1 if it is critical, else 0.
     pub is_critical: u32,
 }
 
-/// Reads the extension that stands at the front of the octets (RFC 5280 4.2), and says where its
-/// fields stand. So who has a list of extensions reads one, and then what is behind it.
+/// Reads the extension at the front of the octets (RFC 5280 4.2), and writes the byte ranges of
+/// its fields. The next extension of a list begins after it.
 ///
-/// The answer is 0, and `out` has the places; or the number of the first fault, and `out` is as it
-/// was.
+/// Returns 0 and writes the byte ranges to `out`, or returns the number of the first error and
+/// leaves `out` unchanged.
 #[unsafe(no_mangle)]
 pub extern "C" fn der_extension<'a>(
     alloc: Global,
@@ -52,7 +52,7 @@ pub extern "C" fn der_extension<'a>(
     }
 }
 
-/// Where the fields of an extension stand that was read from so many octets at the front.
+/// Returns the byte ranges of an extension that was read from the first `length` octets.
 fn extension_at<'a>(value: &Extension<'a>, octets: &[u8], length: u32) -> ExtensionAt
     ensures fields { FrontRead ⟦<Extension<'a> as Form>⟧ octets.now value.now length
         → LaidOut (⟦<Extension<'a> as Placed>⟧.layout value.now) 0 (⟦<Extension<'a> as Placed>⟧.listed result.fields) (take length octets.now) }

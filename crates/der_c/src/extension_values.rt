@@ -20,9 +20,10 @@ use der_places::extension::{
 };
 use std::alloc::Global;
 
-/// Reads all octets as an AuthorityKeyIdentifier (RFC 5280 4.2.1.1), and writes the byte ranges of its fields.
+/// Reads all octets as an AuthorityKeyIdentifier (RFC 5280 4.2.1.1), and writes the byte ranges
+/// of its fields.
 ///
-/// The answer is 0; or the number of the first fault, and `out` is unchanged.
+/// Returns 0, or the number of the first error; `out` is then unchanged.
 #[unsafe(no_mangle)]
 pub extern "C" fn der_authority_key_identifier<'a>(
     alloc: Global,
@@ -39,9 +40,10 @@ pub extern "C" fn der_authority_key_identifier<'a>(
     )
 }
 
-/// Reads all octets as a PolicyInformation (RFC 5280 4.2.1.4), and writes the byte ranges of its fields.
+/// Reads all octets as a PolicyInformation (RFC 5280 4.2.1.4), and writes the byte ranges of its
+/// fields.
 ///
-/// The answer is 0; or the number of the first fault, and `out` is unchanged.
+/// Returns 0, or the number of the first error; `out` is then unchanged.
 #[unsafe(no_mangle)]
 pub extern "C" fn der_policy_information<'a>(
     alloc: Global,
@@ -56,9 +58,10 @@ pub extern "C" fn der_policy_information<'a>(
     read_message::<PolicyInformationPlaces, PolicyInformation<'a>>(alloc, octets, out, fault)
 }
 
-/// Reads all octets as a PolicyQualifierInfo (RFC 5280 4.2.1.4), and writes the byte ranges of its fields.
+/// Reads all octets as a PolicyQualifierInfo (RFC 5280 4.2.1.4), and writes the byte ranges of
+/// its fields.
 ///
-/// The answer is 0; or the number of the first fault, and `out` is unchanged.
+/// Returns 0, or the number of the first error; `out` is then unchanged.
 #[unsafe(no_mangle)]
 pub extern "C" fn der_policy_qualifier_info<'a>(
     alloc: Global,
@@ -73,9 +76,10 @@ pub extern "C" fn der_policy_qualifier_info<'a>(
     read_message::<PolicyQualifierInfoPlaces, PolicyQualifierInfo<'a>>(alloc, octets, out, fault)
 }
 
-/// Reads all octets as a PolicyMapping (RFC 5280 4.2.1.5), and writes the byte ranges of its fields.
+/// Reads all octets as a PolicyMapping (RFC 5280 4.2.1.5), and writes the byte ranges of its
+/// fields.
 ///
-/// The answer is 0; or the number of the first fault, and `out` is unchanged.
+/// Returns 0, or the number of the first error; `out` is then unchanged.
 #[unsafe(no_mangle)]
 pub extern "C" fn der_policy_mapping<'a>(
     alloc: Global,
@@ -90,9 +94,10 @@ pub extern "C" fn der_policy_mapping<'a>(
     read_message::<PolicyMappingPlaces, PolicyMapping<'a>>(alloc, octets, out, fault)
 }
 
-/// Reads all octets as a BasicConstraints (RFC 5280 4.2.1.9), and writes the byte ranges of its fields.
+/// Reads all octets as a BasicConstraints (RFC 5280 4.2.1.9), and writes the byte ranges of its
+/// fields.
 ///
-/// The answer is 0; or the number of the first fault, and `out` is unchanged.
+/// Returns 0, or the number of the first error; `out` is then unchanged.
 #[unsafe(no_mangle)]
 pub extern "C" fn der_basic_constraints<'a>(
     alloc: Global,
@@ -107,9 +112,10 @@ pub extern "C" fn der_basic_constraints<'a>(
     read_message::<BasicConstraintsPlaces, BasicConstraints<'a>>(alloc, octets, out, fault)
 }
 
-/// Reads all octets as a NameConstraints (RFC 5280 4.2.1.10), and writes the byte ranges of its fields.
+/// Reads all octets as a NameConstraints (RFC 5280 4.2.1.10), and writes the byte ranges of its
+/// fields.
 ///
-/// The answer is 0; or the number of the first fault, and `out` is unchanged.
+/// Returns 0, or the number of the first error; `out` is then unchanged.
 #[unsafe(no_mangle)]
 pub extern "C" fn der_name_constraints<'a>(
     alloc: Global,
@@ -124,9 +130,10 @@ pub extern "C" fn der_name_constraints<'a>(
     read_message::<NameConstraintsPlaces, NameConstraints<'a>>(alloc, octets, out, fault)
 }
 
-/// Reads all octets as a GeneralSubtree (RFC 5280 4.2.1.10), and writes the byte ranges of its fields.
+/// Reads all octets as a GeneralSubtree (RFC 5280 4.2.1.10), and writes the byte ranges of its
+/// fields.
 ///
-/// The answer is 0; or the number of the first fault, and `out` is unchanged.
+/// Returns 0, or the number of the first error; `out` is then unchanged.
 #[unsafe(no_mangle)]
 pub extern "C" fn der_general_subtree<'a>(
     alloc: Global,
@@ -141,9 +148,10 @@ pub extern "C" fn der_general_subtree<'a>(
     read_message::<GeneralSubtreePlaces, GeneralSubtree<'a>>(alloc, octets, out, fault)
 }
 
-/// Reads all octets as a PolicyConstraints (RFC 5280 4.2.1.11), and writes the byte ranges of its fields.
+/// Reads all octets as a PolicyConstraints (RFC 5280 4.2.1.11), and writes the byte ranges of its
+/// fields.
 ///
-/// The answer is 0; or the number of the first fault, and `out` is unchanged.
+/// Returns 0, or the number of the first error; `out` is then unchanged.
 #[unsafe(no_mangle)]
 pub extern "C" fn der_policy_constraints<'a>(
     alloc: Global,
@@ -158,9 +166,10 @@ pub extern "C" fn der_policy_constraints<'a>(
     read_message::<PolicyConstraintsPlaces, PolicyConstraints<'a>>(alloc, octets, out, fault)
 }
 
-/// Reads all octets as a DistributionPoint (RFC 5280 4.2.1.13), and writes the byte ranges of its fields.
+/// Reads all octets as a DistributionPoint (RFC 5280 4.2.1.13), and writes the byte ranges of its
+/// fields.
 ///
-/// The answer is 0; or the number of the first fault, and `out` is unchanged.
+/// Returns 0, or the number of the first error; `out` is then unchanged.
 #[unsafe(no_mangle)]
 pub extern "C" fn der_distribution_point<'a>(
     alloc: Global,
@@ -175,9 +184,10 @@ pub extern "C" fn der_distribution_point<'a>(
     read_message::<DistributionPointPlaces, DistributionPoint<'a>>(alloc, octets, out, fault)
 }
 
-/// Reads all octets as an AccessDescription (RFC 5280 4.2.2.1), and writes the byte ranges of its fields.
+/// Reads all octets as an AccessDescription (RFC 5280 4.2.2.1), and writes the byte ranges of its
+/// fields.
 ///
-/// The answer is 0; or the number of the first fault, and `out` is unchanged.
+/// Returns 0, or the number of the first error; `out` is then unchanged.
 #[unsafe(no_mangle)]
 pub extern "C" fn der_access_description<'a>(
     alloc: Global,
@@ -192,9 +202,10 @@ pub extern "C" fn der_access_description<'a>(
     read_message::<AccessDescriptionPlaces, AccessDescription<'a>>(alloc, octets, out, fault)
 }
 
-/// Reads all octets as an IssuingDistributionPoint (RFC 5280 5.2.5), and writes the byte ranges of its fields.
+/// Reads all octets as an IssuingDistributionPoint (RFC 5280 5.2.5), and writes the byte ranges
+/// of its fields.
 ///
-/// The answer is 0; or the number of the first fault, and `out` is unchanged.
+/// Returns 0, or the number of the first error; `out` is then unchanged.
 #[unsafe(no_mangle)]
 pub extern "C" fn der_issuing_distribution_point<'a>(
     alloc: Global,

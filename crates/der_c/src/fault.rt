@@ -1,4 +1,4 @@
-//! Refusals, as numbers.
+//! Errors as numbers.
 
 ghost use Rattle.std.specs.Prelude.{◌≡◌};
 ghost use Rattle.der_tlv.specs.ErrorNumber.{error_number};
@@ -6,19 +6,19 @@ ghost use Rattle.der_c.specs.Answers.{fault_of, fault_of_call, placing};
 
 use der_tlv::{Error, Length};
 
-/// Why octets are refused, and where.
+/// The reason why octets are refused, and the position.
 #[repr(C)]
 #[derive(Clone, Copy, Debug, PartialEq, Eq)]
 pub struct Fault {
-    /// The number of the kind, 1 to 17; or of a call's own refusal, 102 or 103.
+    /// The number of the kind, 1 to 17; or 102 or 103 for an error of the call itself.
     pub number: u32,
     /// Whether the position is known: 1 or 0.
     pub is_placed: u32,
-    /// How many octets had been read, if that is known, else 0.
+    /// The number of octets that had been read, or 0 if it is unknown.
     pub position: u32,
 }
 
-/// Writes the refusal where the caller says, and answers its number.
+/// Writes an error to `fault`, and returns its number.
 pub(crate) fn refuse(error: Error, fault: &mut Fault) -> u32
     ensures number { result ≡ error_number error.kind }
     ensures written { fault.new ≡ fault_of error }
@@ -36,10 +36,10 @@ pub(crate) fn refuse(error: Error, fault: &mut Fault) -> u32
 /// No type has the name.
 pub(crate) const UNKNOWN_NAME: u32 = 102;
 
-/// The room is too short.
+/// The buffer is too short.
 pub(crate) const SHORT_ROOM: u32 = 103;
 
-/// Writes a refusal that is of the call itself, and answers its number.
+/// Writes an error of the call itself to `fault`, and returns its number.
 pub(crate) fn refuse_call(answer: u32, fault: &mut Fault) -> u32
     ensures number { result ≡ answer }
     ensures written { fault.new ≡ fault_of_call answer }
@@ -52,7 +52,7 @@ pub(crate) fn refuse_call(answer: u32, fault: &mut Fault) -> u32
     answer
 }
 
-/// Whether a position is known, and it, else 0.
+/// Returns whether a position is known, and the position, or 0.
 fn place_of(position: Option<Length>) -> (u32, u32)
     ensures { result ≡ placing position }
 {

@@ -7,7 +7,7 @@ use der_elem::{Decode, Form};
 use der_tlv::{Error, Reader, SliceReader};
 use std::alloc::Global;
 
-/// Reads a value from the front of the octets, and says how many it has.
+/// Reads a value from the front of the octets, and returns it with its length.
 pub(crate) fn read_front<'a, T: Decode<'a, SliceReader<'a>>>(
     alloc: Global,
     octets: &'a [u8],

@@ -7,7 +7,7 @@ ghost use Rattle.der_c.specs.Bits.{bit};
 use crate::bits::number_of_flag;
 use der_path::names_host;
 
-/// Whether the contents octets of a dNSName name a host: 1 or 0.
+/// Returns 1 if the contents octets of a dNSName name a host, else 0.
 #[unsafe(no_mangle)]
 pub extern "C" fn der_name_is_of_host(name: &[u8], host: &[u8]) -> u32
     ensures { result ≡ bit (names_host name.now host.now) }

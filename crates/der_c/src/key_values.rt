@@ -15,7 +15,7 @@ use std::alloc::Global;
 
 /// Reads all octets as an RSAPublicKey (RFC 8017 A.1.1), and writes the byte ranges of its fields.
 ///
-/// The answer is 0; or the number of the first fault, and `out` is unchanged.
+/// Returns 0, or the number of the first error; `out` is then unchanged.
 #[unsafe(no_mangle)]
 pub extern "C" fn der_rsa_public_key<'a>(
     alloc: Global,
@@ -32,7 +32,7 @@ pub extern "C" fn der_rsa_public_key<'a>(
 
 /// Reads all octets as an RSAPrivateKey (RFC 8017 A.1.2), and writes the byte ranges of its fields.
 ///
-/// The answer is 0; or the number of the first fault, and `out` is unchanged.
+/// Returns 0, or the number of the first error; `out` is then unchanged.
 #[unsafe(no_mangle)]
 pub extern "C" fn der_rsa_private_key<'a>(
     alloc: Global,
@@ -47,9 +47,10 @@ pub extern "C" fn der_rsa_private_key<'a>(
     read_message::<RsaPrivateKeyPlaces, RsaPrivateKey<'a>>(alloc, octets, out, fault)
 }
 
-/// Reads all octets as an ECPrivateKey (RFC 5915 section 3), and writes the byte ranges of its fields.
+/// Reads all octets as an ECPrivateKey (RFC 5915 section 3), and writes the byte ranges of its
+/// fields.
 ///
-/// The answer is 0; or the number of the first fault, and `out` is unchanged.
+/// Returns 0, or the number of the first error; `out` is then unchanged.
 #[unsafe(no_mangle)]
 pub extern "C" fn der_ec_private_key<'a>(
     alloc: Global,
@@ -64,9 +65,10 @@ pub extern "C" fn der_ec_private_key<'a>(
     read_message::<EcPrivateKeyPlaces, EcPrivateKey<'a>>(alloc, octets, out, fault)
 }
 
-/// Reads all octets as an EncryptedPrivateKeyInfo (RFC 5958 section 3), and writes the byte ranges of its fields.
+/// Reads all octets as an EncryptedPrivateKeyInfo (RFC 5958 section 3), and writes the byte
+/// ranges of its fields.
 ///
-/// The answer is 0; or the number of the first fault, and `out` is unchanged.
+/// Returns 0, or the number of the first error; `out` is then unchanged.
 #[unsafe(no_mangle)]
 pub extern "C" fn der_encrypted_private_key_info<'a>(
     alloc: Global,

@@ -1,4 +1,4 @@
-//! Where the fields of keys stand.
+//! The byte ranges of the fields of keys.
 
 ghost use Rattle.std.specs.Prelude.{◌≡◌};
 ghost use Rattle.der_elem.specs.Decoding.{AllRead};
@@ -16,7 +16,7 @@ use der_places::key::OneAsymmetricKeyPlaces;
 use der_places::{Placed, places_of};
 use std::alloc::Global;
 
-/// Where the fields of a PrivateKeyInfo stand, and its version.
+/// The byte ranges of the fields of a PrivateKeyInfo, and its version.
 #[repr(C)]
 #[derive(Clone, Copy, Debug, PartialEq, Eq)]
 pub struct PrivateKeyInfoAt {
@@ -26,11 +26,11 @@ pub struct PrivateKeyInfoAt {
     pub version: u64,
 }
 
-/// Reads octets as a SubjectPublicKeyInfo (RFC 5280 4.1.2.7), all of them, and says where its fields
-/// stand.
+/// Reads all octets as a SubjectPublicKeyInfo (RFC 5280 4.1.2.7), and writes the byte ranges of
+/// its fields.
 ///
-/// The answer is 0, and `out` has the places; or the number of the first fault, and `out` is as it
-/// was.
+/// Returns 0 and writes the byte ranges to `out`, or returns the number of the first error and
+/// leaves `out` unchanged.
 #[unsafe(no_mangle)]
 pub extern "C" fn der_subject_public_key_info<'a>(
     alloc: Global,
@@ -45,10 +45,11 @@ pub extern "C" fn der_subject_public_key_info<'a>(
     read_message::<SubjectPublicKeyInfoPlaces, SubjectPublicKeyInfo<'a>>(alloc, octets, out, fault)
 }
 
-/// Reads octets as a PrivateKeyInfo (RFC 5958 section 2), all of them, and says where its fields stand.
+/// Reads all octets as a PrivateKeyInfo (RFC 5958 section 2), and writes the byte ranges of its
+/// fields.
 ///
-/// The answer is 0, and `out` has the places; or the number of the first fault, and `out` is as it
-/// was.
+/// Returns 0 and writes the byte ranges to `out`, or returns the number of the first error and
+/// leaves `out` unchanged.
 #[unsafe(no_mangle)]
 pub extern "C" fn der_private_key_info<'a>(
     alloc: Global,
@@ -70,7 +71,7 @@ pub extern "C" fn der_private_key_info<'a>(
     }
 }
 
-/// Where the fields of a private key stand that was read from these octets.
+/// Returns the byte ranges of a private key that was read from these octets.
 fn private_key_info_at<'a>(value: &OneAsymmetricKey<'a>, octets: &[u8]) -> PrivateKeyInfoAt
     ensures fields { AllRead ⟦<OneAsymmetricKey<'a> as Form>⟧ octets.now value.now
         → LaidOut (⟦<OneAsymmetricKey<'a> as Placed>⟧.layout value.now) 0 (⟦<OneAsymmetricKey<'a> as Placed>⟧.listed result.fields) octets.now }

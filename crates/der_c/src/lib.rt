@@ -1,7 +1,9 @@
-//! The library for programs in C, and in what calls C: calls over octets that keep nothing.
+//! A library for programs in C, and for languages that call C. The calls read octets and keep
+//! nothing.
 //!
-//! Each takes octets as an address and their number, answers 0 or the number of the first fault, and
-//! writes the places of the fields where the caller says. `c/include/barleypulley/der.h` is the header.
+//! Each call takes octets as an address and a length, returns 0 or the number of the first error,
+//! and writes the byte ranges of the fields to memory of the caller.
+//! `c/include/barleypulley/der.h` is the header.
 #![tactic(auto)]
 
 mod algorithms;

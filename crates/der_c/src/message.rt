@@ -1,4 +1,4 @@
-//! Messages that are all of the octets, with the byte ranges of their fields.
+//! Messages that are read from all octets, with the byte ranges of their fields.
 
 ghost use Rattle.std.specs.Prelude.{IfErr, IfOk};
 ghost use Rattle.der_places.specs.Layout.{LaidOut};
@@ -12,8 +12,8 @@ use std::alloc::Global;
 
 /// Reads all octets as a message, and writes the byte ranges of its fields.
 ///
-/// The answer is 0, and `out` has the byte ranges; or the number of the first fault, and `out` is
-/// unchanged.
+/// Returns 0 and writes the byte ranges to `out`, or returns the number of the first error and
+/// leaves `out` unchanged.
 pub(crate) fn read_message<
     'a,
     P: Copy,
@@ -32,7 +32,7 @@ pub(crate) fn read_message<
     }
 }
 
-/// The byte ranges of the fields of a message that all octets are.
+/// Returns the byte ranges of the fields of a message that all octets encode.
 fn fields_of<'a, P: Copy, T: Copy + DecodeValue<'a, SliceReader<'a>> + OneTag + Placed<Places = P>>(
     alloc: Global,
     octets: &'a [u8],

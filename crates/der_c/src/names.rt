@@ -1,4 +1,4 @@
-//! Names compared as RFC 5280 section 7.1 says.
+//! Names compared as RFC 5280 section 7.1 requires.
 
 ghost use Rattle.std.specs.Prelude.{◌≡◌, List};
 ghost use Rattle.der_pkix.specs.declared.name.attribute_type_and_value.AttributeTypeAndValue.{AttributeTypeAndValue};
@@ -13,9 +13,10 @@ use der_pkix::name::{AttributeTypeAndValue, Name, RelativeDistinguishedName};
 use der_verify::names_match;
 use std::alloc::Global;
 
-/// Reads all octets of both as Names (RFC 5280 4.1.2.4), and writes 1 where they match (7.1), else 0.
+/// Reads all octets of both inputs as Names (RFC 5280 4.1.2.4), and writes 1 if they match (7.1),
+/// else 0.
 ///
-/// The answer is 0; or the number of the first fault of `first`, or of `second` where `first` has none,
+/// Returns 0; or the number of the first error of `first`, or of `second` if `first` has none,
 /// and `out` is unchanged.
 #[unsafe(no_mangle)]
 pub extern "C" fn der_names_match<'a>(

@@ -13,7 +13,7 @@ use std::alloc::Global;
 
 /// Reads all octets as an OCSPRequest (RFC 6960 4.1.1), and writes the byte ranges of its fields.
 ///
-/// The answer is 0; or the number of the first fault, and `out` is unchanged.
+/// Returns 0, or the number of the first error; `out` is then unchanged.
 #[unsafe(no_mangle)]
 pub extern "C" fn der_ocsp_request<'a>(
     alloc: Global,
@@ -30,7 +30,7 @@ pub extern "C" fn der_ocsp_request<'a>(
 
 /// Reads all octets as a TBSRequest (RFC 6960 4.1.1), and writes the byte ranges of its fields.
 ///
-/// The answer is 0; or the number of the first fault, and `out` is unchanged.
+/// Returns 0, or the number of the first error; `out` is then unchanged.
 #[unsafe(no_mangle)]
 pub extern "C" fn der_tbs_request<'a>(
     alloc: Global,
@@ -47,7 +47,7 @@ pub extern "C" fn der_tbs_request<'a>(
 
 /// Reads all octets as a Request (RFC 6960 4.1.1), and writes the byte ranges of its fields.
 ///
-/// The answer is 0; or the number of the first fault, and `out` is unchanged.
+/// Returns 0, or the number of the first error; `out` is then unchanged.
 #[unsafe(no_mangle)]
 pub extern "C" fn der_request<'a>(
     alloc: Global,
@@ -64,7 +64,7 @@ pub extern "C" fn der_request<'a>(
 
 /// Reads all octets as a CertID (RFC 6960 4.1.1), and writes the byte ranges of its fields.
 ///
-/// The answer is 0; or the number of the first fault, and `out` is unchanged.
+/// Returns 0, or the number of the first error; `out` is then unchanged.
 #[unsafe(no_mangle)]
 pub extern "C" fn der_cert_id<'a>(
     alloc: Global,

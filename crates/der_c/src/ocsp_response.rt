@@ -1,4 +1,4 @@
-//! Where the fields of an answer about the status of certificates stand.
+//! The byte ranges of the fields of an OCSP response.
 
 ghost use Rattle.std.specs.Prelude.{◌≡◌, List, Some, length, option_copied, ℕ};
 ghost use Rattle.der_elem.specs.Decoding.{AllRead};
@@ -18,23 +18,23 @@ use der_places::ocsp::{OcspResponsePlaces, ResponseBytesPlaces};
 use der_places::{Place, Placed, contents_of, places_of};
 use std::alloc::Global;
 
-/// Where the fields of an OCSPResponse and of what it holds stand, and its status.
+/// The byte ranges of the fields of an OCSPResponse and of its `responseBytes`, and its status.
 #[repr(C)]
 #[derive(Clone, Copy, Debug, PartialEq, Eq)]
 pub struct OcspResponseAt {
     /// Its fields.
     pub fields: OcspResponsePlaces,
-    /// The two fields of `responseBytes`; no octets where these are absent.
+    /// The two fields of `responseBytes`; no octets if it is absent.
     pub bytes: ResponseBytesPlaces,
-    /// 0 for successful; else no answer is in it, and this is why.
+    /// 0 for successful; any other number is the reason why there is no response.
     pub response_status: i64,
 }
 
-/// Reads octets as an OCSPResponse (RFC 6960 4.2.1), all of them, and says where its fields stand, and
-/// those of its `responseBytes`.
+/// Reads all octets as an OCSPResponse (RFC 6960 4.2.1), and writes the byte ranges of its fields
+/// and of those of its `responseBytes`.
 ///
-/// The answer is 0, and `out` has the places; or the number of the first fault, and `out` is as it
-/// was.
+/// Returns 0 and writes the byte ranges to `out`, or returns the number of the first error and
+/// leaves `out` unchanged.
 #[unsafe(no_mangle)]
 pub extern "C" fn der_ocsp_response<'a>(
     alloc: Global,
@@ -57,7 +57,7 @@ pub extern "C" fn der_ocsp_response<'a>(
     }
 }
 
-/// Where the fields of an OCSPResponse stand that was read from these octets.
+/// Returns the byte ranges of an OCSPResponse that was read from these octets.
 fn ocsp_response_at<'a>(value: &OcspResponse<'a>, octets: &[u8]) -> OcspResponseAt
     ensures fields { AllRead ⟦<OcspResponse<'a> as Form>⟧ octets.now value.now
         → LaidOut (⟦<OcspResponse<'a> as Placed>⟧.layout value.now) 0 (⟦<OcspResponse<'a> as Placed>⟧.listed result.fields) octets.now }
@@ -75,7 +75,8 @@ fn ocsp_response_at<'a>(value: &OcspResponse<'a>, octets: &[u8]) -> OcspResponse
     }
 }
 
-/// Where the fields of `responseBytes` stand, which stand after their tag at a place.
+/// Returns the byte ranges of the fields of `responseBytes`, which are after a tag at a byte
+/// range.
 fn response_bytes_at<'a>(
     value: Option<&ResponseBytes<'a>>,
     octets: &[u8],
@@ -91,7 +92,7 @@ fn response_bytes_at<'a>(
     }
 }
 
-/// Where the fields of `responseBytes` stand that are there.
+/// Returns the byte ranges of the fields of a `responseBytes` that is present.
 fn inner_bytes_at<'a>(bytes: &ResponseBytes<'a>, octets: &[u8], field: Place) -> ResponseBytesPlaces
     ensures { (own : List ℕ) → ⟦<Explicit<ResponseBytes<'a>, 0> as Form>⟧.accepts Der (explicit bytes.now) own
         → StandAt octets.now field.offset own → field.length ≡ length own
@@ -101,7 +102,7 @@ fn inner_bytes_at<'a>(bytes: &ResponseBytes<'a>, octets: &[u8], field: Place) ->
     places_of(bytes, octets, inner.offset)
 }
 
-/// The places of fields that are absent.
+/// Returns the byte ranges of fields that are absent.
 fn absent_bytes() -> ResponseBytesPlaces
     ensures response_type { result.response_type.length ≡ 0 }
     ensures response { result.response.length ≡ 0 }

@@ -1,4 +1,4 @@
-//! Files of PKCS #12.
+//! PKCS #12 files.
 
 ghost use Rattle.der_places.specs.Layout.{LaidOut};
 ghost use Rattle.der_c.specs.Answers.{Answers};
@@ -15,7 +15,7 @@ use std::alloc::Global;
 
 /// Reads all octets as a PFX (RFC 7292 section 4), and writes the byte ranges of its fields.
 ///
-/// The answer is 0; or the number of the first fault, and `out` is unchanged.
+/// Returns 0, or the number of the first error; `out` is then unchanged.
 #[unsafe(no_mangle)]
 pub extern "C" fn der_pfx<'a>(
     alloc: Global,
@@ -32,7 +32,7 @@ pub extern "C" fn der_pfx<'a>(
 
 /// Reads all octets as a MacData (RFC 7292 section 4), and writes the byte ranges of its fields.
 ///
-/// The answer is 0; or the number of the first fault, and `out` is unchanged.
+/// Returns 0, or the number of the first error; `out` is then unchanged.
 #[unsafe(no_mangle)]
 pub extern "C" fn der_mac_data<'a>(
     alloc: Global,
@@ -49,7 +49,7 @@ pub extern "C" fn der_mac_data<'a>(
 
 /// Reads all octets as a DigestInfo (RFC 8017 9.2), and writes the byte ranges of its fields.
 ///
-/// The answer is 0; or the number of the first fault, and `out` is unchanged.
+/// Returns 0, or the number of the first error; `out` is then unchanged.
 #[unsafe(no_mangle)]
 pub extern "C" fn der_digest_info<'a>(
     alloc: Global,
@@ -66,7 +66,7 @@ pub extern "C" fn der_digest_info<'a>(
 
 /// Reads all octets as a SafeBag (RFC 7292 4.2), and writes the byte ranges of its fields.
 ///
-/// The answer is 0; or the number of the first fault, and `out` is unchanged.
+/// Returns 0, or the number of the first error; `out` is then unchanged.
 #[unsafe(no_mangle)]
 pub extern "C" fn der_safe_bag<'a>(
     alloc: Global,
@@ -83,7 +83,7 @@ pub extern "C" fn der_safe_bag<'a>(
 
 /// Reads all octets as a CertBag (RFC 7292 4.2.3), and writes the byte ranges of its fields.
 ///
-/// The answer is 0; or the number of the first fault, and `out` is unchanged.
+/// Returns 0, or the number of the first error; `out` is then unchanged.
 #[unsafe(no_mangle)]
 pub extern "C" fn der_cert_bag<'a>(
     alloc: Global,

@@ -1,5 +1,5 @@
-//! Where the fields of an entry of a list of revoked certificates stand, of those that stand one behind
-//! another.
+//! The byte ranges of the fields of the entries of a list of revoked certificates, which are read
+//! one after another.
 
 ghost use Rattle.std.specs.Prelude.{◌≡◌, take};
 ghost use Rattle.der_pkix.specs.Crl.RevokedCertificate as revoked;
@@ -16,11 +16,11 @@ use der_places::crl::RevokedCertificatePlaces;
 use der_places::{Place, Placed, places_of};
 use std::alloc::Global;
 
-/// Where the fields of an entry stand, and when the certificate was revoked.
+/// The byte ranges of the fields of an entry, and when the certificate was revoked.
 #[repr(C)]
 #[derive(Clone, Copy, Debug, PartialEq, Eq)]
 pub struct RevokedCertificateAt {
-    /// The whole entry; behind it the next one begins.
+    /// The whole entry; the next one begins after it.
     pub whole: Place,
     /// Its fields.
     pub fields: RevokedCertificatePlaces,
@@ -28,11 +28,11 @@ pub struct RevokedCertificateAt {
     pub revocation_date: u64,
 }
 
-/// Reads the entry that stands at the front of the octets (RFC 5280 5.1.2.6), and says where its
-/// fields stand. So who has the entries of a list reads one, and then what is behind it.
+/// Reads the entry at the front of the octets (RFC 5280 5.1.2.6), and writes the byte ranges of
+/// its fields. The next entry of a list begins after it.
 ///
-/// The answer is 0, and `out` has the places; or the number of the first fault, and `out` is as it
-/// was.
+/// Returns 0 and writes the byte ranges to `out`, or returns the number of the first error and
+/// leaves `out` unchanged.
 #[unsafe(no_mangle)]
 pub extern "C" fn der_revoked_certificate<'a>(
     alloc: Global,
@@ -55,7 +55,7 @@ pub extern "C" fn der_revoked_certificate<'a>(
     }
 }
 
-/// Where the fields of an entry stand that was read from so many octets at the front.
+/// Returns the byte ranges of an entry that was read from the first `length` octets.
 fn revoked_certificate_at<'a>(
     value: &RevokedCertificate<'a>,
     octets: &[u8],

@@ -1,4 +1,4 @@
-//! What RFC 5280 asks beyond the grammar.
+//! The requirements of RFC 5280 beyond the grammar.
 
 ghost use Rattle.std.specs.Prelude.{◌≡◌, List, Option, map};
 ghost use Rattle.der_pkix.specs.declared.certificate.extension.Extension.{Extension};
@@ -19,12 +19,12 @@ use der_pkix::crl::{CertificateList, RevokedCertificate};
 use der_verify::{CertificateRule, ListRule};
 use std::alloc::Global;
 
-/// Reads octets as a certificate, all of them, and says which rules of RFC 5280 it breaks that stand
-/// beyond the grammar: the first of `CERTIFICATE_RULES` of `der_verify` as the bit 1, the next as 2, and
-/// so on.
+/// Reads all octets as a certificate, and writes which rules of RFC 5280 beyond the grammar it
+/// breaks: the first of `CERTIFICATE_RULES` of `der_verify` as the bit 1, the next as 2, and so
+/// on.
 ///
-/// The answer is 0, and `broken` has the bits; or the number of the first fault, and `broken` is as it
-/// was.
+/// Returns 0 and writes the bits to `broken`, or returns the number of the first error and leaves
+/// `broken` unchanged.
 #[unsafe(no_mangle)]
 pub extern "C" fn der_check_rfc5280<'a>(
     alloc: Global,
@@ -46,7 +46,7 @@ pub extern "C" fn der_check_rfc5280<'a>(
     }
 }
 
-/// The rules that a certificate breaks, as bits.
+/// Returns the rules that a certificate breaks, as bits.
 fn broken_by_certificate<'a>(alloc: Global, value: &Certificate<'a>) -> u32
     ensures { (listed : List Extension) → AreListed ⟦<Extension<'a> as Form>⟧ (tbs_fields.extensions (certificate_fields.tbs_certificate value.now)) listed
         → result ≡ bits (map (λ r. breaks r value.now listed) certificate_rules) }
@@ -73,11 +73,11 @@ fn broken_by_certificate<'a>(alloc: Global, value: &Certificate<'a>) -> u32
     ])
 }
 
-/// Reads octets as a list of revoked certificates, all of them, and says which rules of RFC 5280 it
-/// breaks, by the order of `LIST_RULES` of `der_verify`.
+/// Reads all octets as a list of revoked certificates, and writes which rules of RFC 5280 beyond
+/// the grammar it breaks, in the order of `LIST_RULES` of `der_verify`.
 ///
-/// The answer is 0, and `broken` has the bits; or the number of the first fault, and `broken` is as it
-/// was.
+/// Returns 0 and writes the bits to `broken`, or returns the number of the first error and leaves
+/// `broken` unchanged.
 #[unsafe(no_mangle)]
 pub extern "C" fn der_check_rfc5280_list<'a>(
     alloc: Global,
@@ -101,7 +101,7 @@ pub extern "C" fn der_check_rfc5280_list<'a>(
     }
 }
 
-/// The rules that a list breaks, as bits.
+/// Returns the rules that a list breaks, as bits.
 fn broken_by_list<'a>(alloc: Global, value: &CertificateList<'a>) -> u32
     ensures { (listed : List Extension) (entries : List (Option (List Extension)))
         → AreListed ⟦<Extension<'a> as Form>⟧ (tbs_list_fields.crl_extensions (list_fields.tbs_cert_list value.now)) listed

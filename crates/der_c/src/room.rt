@@ -1,11 +1,11 @@
-//! Octets that are written into a room of the caller.
+//! Octets that are written to a buffer of the caller.
 
 ghost use Rattle.der_c.specs.Rooms.{Written};
 
 use crate::fault::{Fault, SHORT_ROOM, refuse_call};
 
-/// Writes an encoding to the front of a room, and how many octets it has. A room that is too short stays
-/// as it was, and the answer is 103.
+/// Writes an encoding to the front of a buffer, and its length to `count`. If the buffer is too
+/// short, it is unchanged, and the result is 103.
 pub(crate) fn fill(encoding: &[u8], room: &mut [u8], count: &mut usize, fault: &mut Fault) -> u32
     ensures { Written encoding.now room.old room.new count.new fault.old fault.new result }
 {

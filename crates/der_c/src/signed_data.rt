@@ -1,4 +1,4 @@
-//! Where the fields of a signed message stand.
+//! The byte ranges of the fields of a signed message.
 
 ghost use Rattle.std.specs.Prelude.{◌≡◌};
 ghost use Rattle.der_cms.specs.Cms.SignedData as signed;
@@ -14,10 +14,11 @@ use der_places::cms::{ContentInfoPlaces, EncapsulatedContentInfoPlaces, SignedDa
 use der_places::{Placed, places_of};
 use std::alloc::Global;
 
-/// Reads octets as a ContentInfo (RFC 5652 section 3), all of them, and says where its fields stand.
+/// Reads all octets as a ContentInfo (RFC 5652 section 3), and writes the byte ranges of its
+/// fields.
 ///
-/// The answer is 0, and `out` has the places; or the number of the first fault, and `out` is as it
-/// was.
+/// Returns 0 and writes the byte ranges to `out`, or returns the number of the first error and
+/// leaves `out` unchanged.
 #[unsafe(no_mangle)]
 pub extern "C" fn der_content_info<'a>(
     alloc: Global,
@@ -32,7 +33,7 @@ pub extern "C" fn der_content_info<'a>(
     read_message::<ContentInfoPlaces, ContentInfo<'a>>(alloc, octets, out, fault)
 }
 
-/// Where the fields of a SignedData stand, and its version.
+/// The byte ranges of the fields of a SignedData, and its version.
 #[repr(C)]
 #[derive(Clone, Copy, Debug, PartialEq, Eq)]
 pub struct SignedDataAt {
@@ -44,11 +45,11 @@ pub struct SignedDataAt {
     pub version: u64,
 }
 
-/// Reads octets as a SignedData (RFC 5652 5.1), all of them, and says where its fields stand: what
-/// stands within the tag of `content`, where `contentType` is id-signedData.
+/// Reads all octets as a SignedData (RFC 5652 5.1), and writes the byte ranges of its fields.
+/// These octets are those within the tag of `content` where `contentType` is id-signedData.
 ///
-/// The answer is 0, and `out` has the places; or the number of the first fault, and `out` is as it
-/// was.
+/// Returns 0 and writes the byte ranges to `out`, or returns the number of the first error and
+/// leaves `out` unchanged.
 #[unsafe(no_mangle)]
 pub extern "C" fn der_signed_data<'a>(
     alloc: Global,
@@ -71,7 +72,7 @@ pub extern "C" fn der_signed_data<'a>(
     }
 }
 
-/// Where the fields of a SignedData stand that was read from these octets.
+/// Returns the byte ranges of a SignedData that was read from these octets.
 fn signed_data_at<'a>(value: &SignedData<'a>, octets: &[u8]) -> SignedDataAt
     ensures fields { AllRead ⟦<SignedData<'a> as Form>⟧ octets.now value.now
         → LaidOut (⟦<SignedData<'a> as Placed>⟧.layout value.now) 0 (⟦<SignedData<'a> as Placed>⟧.listed result.fields) octets.now }

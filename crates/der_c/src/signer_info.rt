@@ -1,4 +1,4 @@
-//! Where the fields of a signer stand, of those that stand one behind another.
+//! The byte ranges of the fields of signers, which are read one after another.
 
 ghost use Rattle.std.specs.Prelude.{◌≡◌, take};
 ghost use Rattle.der_cms.specs.Cms.SignerInfo as signer;
@@ -13,11 +13,11 @@ use der_places::cms::SignerInfoPlaces;
 use der_places::{Place, Placed, places_of};
 use std::alloc::Global;
 
-/// Where the fields of a signer stand, and the version.
+/// The byte ranges of the fields of a signer, and the version.
 #[repr(C)]
 #[derive(Clone, Copy, Debug, PartialEq, Eq)]
 pub struct SignerInfoAt {
-    /// The whole SignerInfo; behind it the next one begins.
+    /// The whole SignerInfo; the next one begins after it.
     pub whole: Place,
     /// Its fields.
     pub fields: SignerInfoPlaces,
@@ -25,11 +25,11 @@ pub struct SignerInfoAt {
     pub version: u64,
 }
 
-/// Reads the SignerInfo that stands at the front of the octets (RFC 5652 5.3), and says where its
-/// fields stand. So who has the signers of a message reads one, and then what is behind it.
+/// Reads the SignerInfo at the front of the octets (RFC 5652 5.3), and writes the byte ranges of
+/// its fields. The next signer of a message begins after it.
 ///
-/// The answer is 0, and `out` has the places; or the number of the first fault, and `out` is as it
-/// was.
+/// Returns 0 and writes the byte ranges to `out`, or returns the number of the first error and
+/// leaves `out` unchanged.
 #[unsafe(no_mangle)]
 pub extern "C" fn der_signer_info<'a>(
     alloc: Global,
@@ -52,7 +52,7 @@ pub extern "C" fn der_signer_info<'a>(
     }
 }
 
-/// Where the fields of a signer stand that was read from so many octets at the front.
+/// Returns the byte ranges of a signer that was read from the first `length` octets.
 fn signer_info_at<'a>(value: &SignerInfo<'a>, octets: &[u8], length: u32) -> SignerInfoAt
     ensures fields { FrontRead ⟦<SignerInfo<'a> as Form>⟧ octets.now value.now length
         → LaidOut (⟦<SignerInfo<'a> as Placed>⟧.layout value.now) 0 (⟦<SignerInfo<'a> as Placed>⟧.listed result.fields) (take length octets.now) }

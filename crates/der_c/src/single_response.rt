@@ -1,4 +1,5 @@
-//! Where the fields of the answer about one certificate stand, of those that stand one behind another.
+//! The byte ranges of the fields of responses about single certificates, which are read one after
+//! another.
 
 ghost use Rattle.std.specs.Prelude.{◌≡◌, take};
 ghost use Rattle.der_ocsp.specs.Ocsp.SingleResponse as single;
@@ -16,29 +17,30 @@ use der_places::ocsp::SingleResponsePlaces;
 use der_places::{Place, Placed, places_of};
 use std::alloc::Global;
 
-/// Where the fields of the answer about one certificate stand, and what some of them say.
+/// The byte ranges of the fields of the response about one certificate, and the values of some
+/// fields.
 #[repr(C)]
 #[derive(Clone, Copy, Debug, PartialEq, Eq)]
 pub struct SingleResponseAt {
-    /// The whole answer; behind it the next one begins.
+    /// The whole response; the next one begins after it.
     pub whole: Place,
     /// Its fields.
     pub fields: SingleResponsePlaces,
     /// `thisUpdate`, in seconds from 1970-01-01T00:00:00Z.
     pub this_update: u64,
-    /// `nextUpdate`; 0 where it is absent.
+    /// `nextUpdate`, or 0 if it is absent.
     pub next_update: u64,
-    /// `revocationTime` of a certificate that is revoked, else 0.
+    /// `revocationTime` if the certificate is revoked, else 0.
     pub revocation_time: u64,
     /// `certStatus`: 0 for good, 1 for revoked, 2 for unknown.
     pub status: u64,
 }
 
-/// Reads the answer about one certificate that stands at the front of the octets (RFC 6960 4.2.1), and
-/// says where its fields stand. So who has the answers reads one, and then what is behind it.
+/// Reads the response about one certificate at the front of the octets (RFC 6960 4.2.1), and
+/// writes the byte ranges of its fields. The next response begins after it.
 ///
-/// The answer is 0, and `out` has the places; or the number of the first fault, and `out` is as it
-/// was.
+/// Returns 0 and writes the byte ranges to `out`, or returns the number of the first error and
+/// leaves `out` unchanged.
 #[unsafe(no_mangle)]
 pub extern "C" fn der_single_response<'a>(
     alloc: Global,
@@ -64,7 +66,7 @@ pub extern "C" fn der_single_response<'a>(
     }
 }
 
-/// Where the fields of an answer stand that was read from so many octets at the front.
+/// Returns the byte ranges of a response that was read from the first `length` octets.
 fn single_response_at<'a>(
     value: &SingleResponse<'a>,
     octets: &[u8],
@@ -89,7 +91,7 @@ fn single_response_at<'a>(
     }
 }
 
-/// 0 for good, 1 for revoked, 2 for unknown.
+/// Returns 0 for good, 1 for revoked, 2 for unknown.
 fn status_number(status: CertStatus) -> u64
     ensures { result ≡ number_of_status status }
 {
@@ -100,7 +102,7 @@ fn status_number(status: CertStatus) -> u64
     }
 }
 
-/// When a certificate was revoked; 0 of one that is not.
+/// Returns when a certificate was revoked, or 0 if it was not revoked.
 fn revocation_seconds(status: CertStatus) -> u64
     ensures { result ≡ revoked_at status }
 {

@@ -18,7 +18,7 @@ use std::alloc::Global;
 
 /// Reads all octets as a TimeStampReq (RFC 3161 2.4.1), and writes the byte ranges of its fields.
 ///
-/// The answer is 0; or the number of the first fault, and `out` is unchanged.
+/// Returns 0, or the number of the first error; `out` is then unchanged.
 #[unsafe(no_mangle)]
 pub extern "C" fn der_time_stamp_req<'a>(
     alloc: Global,
@@ -35,7 +35,7 @@ pub extern "C" fn der_time_stamp_req<'a>(
 
 /// Reads all octets as a MessageImprint (RFC 3161 2.4.1), and writes the byte ranges of its fields.
 ///
-/// The answer is 0; or the number of the first fault, and `out` is unchanged.
+/// Returns 0, or the number of the first error; `out` is then unchanged.
 #[unsafe(no_mangle)]
 pub extern "C" fn der_message_imprint<'a>(
     alloc: Global,
@@ -52,7 +52,7 @@ pub extern "C" fn der_message_imprint<'a>(
 
 /// Reads all octets as a TimeStampResp (RFC 3161 2.4.2), and writes the byte ranges of its fields.
 ///
-/// The answer is 0; or the number of the first fault, and `out` is unchanged.
+/// Returns 0, or the number of the first error; `out` is then unchanged.
 #[unsafe(no_mangle)]
 pub extern "C" fn der_time_stamp_resp<'a>(
     alloc: Global,
@@ -69,7 +69,7 @@ pub extern "C" fn der_time_stamp_resp<'a>(
 
 /// Reads all octets as a PKIStatusInfo (RFC 3161 2.4.2), and writes the byte ranges of its fields.
 ///
-/// The answer is 0; or the number of the first fault, and `out` is unchanged.
+/// Returns 0, or the number of the first error; `out` is then unchanged.
 #[unsafe(no_mangle)]
 pub extern "C" fn der_pki_status_info<'a>(
     alloc: Global,
@@ -86,7 +86,7 @@ pub extern "C" fn der_pki_status_info<'a>(
 
 /// Reads all octets as a TSTInfo (RFC 3161 2.4.2), and writes the byte ranges of its fields.
 ///
-/// The answer is 0; or the number of the first fault, and `out` is unchanged.
+/// Returns 0, or the number of the first error; `out` is then unchanged.
 #[unsafe(no_mangle)]
 pub extern "C" fn der_tst_info<'a>(
     alloc: Global,
@@ -103,7 +103,7 @@ pub extern "C" fn der_tst_info<'a>(
 
 /// Reads all octets as an Accuracy (RFC 3161 2.4.2), and writes the byte ranges of its fields.
 ///
-/// The answer is 0; or the number of the first fault, and `out` is unchanged.
+/// Returns 0, or the number of the first error; `out` is then unchanged.
 #[unsafe(no_mangle)]
 pub extern "C" fn der_accuracy<'a>(
     alloc: Global,

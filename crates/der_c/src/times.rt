@@ -6,7 +6,7 @@ ghost use Rattle.der_c.specs.Times.{seconds_if_given, seconds_if_there, seconds_
 use der_pkix::certificate::{Time, Version};
 use der_time::GeneralizedTime;
 
-/// The seconds from 1970-01-01T00:00:00Z, with no leap seconds, which no date is before.
+/// Returns the seconds from 1970-01-01T00:00:00Z, with no leap seconds. No date is earlier.
 pub(crate) fn seconds(time: Time) -> u64
     ensures { result ≡ seconds_of time }
 {
@@ -16,7 +16,7 @@ pub(crate) fn seconds(time: Time) -> u64
     }
 }
 
-/// Those of a date that may be absent, and then 0.
+/// Returns the seconds of a date, or 0 if it is absent.
 pub(crate) fn seconds_or_none(time: Option<Time>) -> u64
     ensures { result ≡ seconds_if_there time }
 {
@@ -26,7 +26,7 @@ pub(crate) fn seconds_or_none(time: Option<Time>) -> u64
     }
 }
 
-/// The number of a version that may be absent, and is then v1, 0.
+/// Returns the number of a version, or 0 for v1 if it is absent.
 pub(crate) fn number_of(version: Option<Version>) -> u64
     ensures { result ≡ version_if_there version }
 {
@@ -36,14 +36,14 @@ pub(crate) fn number_of(version: Option<Version>) -> u64
     }
 }
 
-/// The seconds of a date that is a GeneralizedTime.
+/// Returns the seconds of a GeneralizedTime.
 pub(crate) fn general_seconds(time: GeneralizedTime) -> u64
     ensures { result ≡ seconds_of_general time }
 {
     time.to_date_time().unix_duration().as_secs()
 }
 
-/// Those of one that may be absent, and then 0.
+/// Returns the seconds of a GeneralizedTime, or 0 if it is absent.
 pub(crate) fn general_seconds_or_none(time: Option<GeneralizedTime>) -> u64
     ensures { result ≡ seconds_if_given time }
 {

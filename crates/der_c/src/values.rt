@@ -18,9 +18,10 @@ use der_pkix::certificate::Time;
 use der_simple::FractionalTimeRef;
 use std::alloc::Global;
 
-/// Reads all octets as an INTEGER from 0 to 18446744073709551615 (X.690 8.3), and writes the number.
+/// Reads all octets as an INTEGER from 0 to 18446744073709551615 (X.690 8.3), and writes the
+/// number.
 ///
-/// The answer is 0; or the number of the first fault, and `out` is unchanged.
+/// Returns 0, or the number of the first error; `out` is then unchanged.
 #[unsafe(no_mangle)]
 pub extern "C" fn der_unsigned_integer(
     alloc: Global,
@@ -43,7 +44,7 @@ pub extern "C" fn der_unsigned_integer(
 /// Reads all octets as a Time (RFC 5280 4.1.2.5), a UTCTime or a GeneralizedTime, and writes the
 /// seconds from 1970-01-01T00:00:00Z, with no leap seconds.
 ///
-/// The answer is 0; or the number of the first fault, and `out` is unchanged.
+/// Returns 0, or the number of the first error; `out` is then unchanged.
 #[unsafe(no_mangle)]
 pub extern "C" fn der_time(alloc: Global, octets: &[u8], out: &mut u64, fault: &mut Fault) -> u32
     ensures { Answers ⟦<Time as Form>⟧ octets.now (λ v n. n ≡ seconds_of v)
@@ -61,7 +62,7 @@ pub extern "C" fn der_time(alloc: Global, octets: &[u8], out: &mut u64, fault: &
 /// Reads all octets as a GeneralizedTime that may have a fraction of a second (X.690 11.7), such as
 /// `genTime` of a time stamp, and writes the seconds from 1970-01-01T00:00:00Z, without the fraction.
 ///
-/// The answer is 0; or the number of the first fault, and `out` is unchanged.
+/// Returns 0, or the number of the first error; `out` is then unchanged.
 #[unsafe(no_mangle)]
 pub extern "C" fn der_fractional_time<'a>(
     alloc: Global,
@@ -81,10 +82,11 @@ pub extern "C" fn der_fractional_time<'a>(
     }
 }
 
-/// Reads all octets as a BIT STRING with named bits (X.680 22.7), such as a KeyUsage, and writes the
+/// Reads all octets as a BIT STRING with named bits (X.680 22.7), such as a KeyUsage, and writes
+/// the
 /// bits 0 to 15: bit 0 as 1, bit 1 as 2, bit 2 as 4, and so on.
 ///
-/// The answer is 0; or the number of the first fault, and `out` is unchanged.
+/// Returns 0, or the number of the first error; `out` is then unchanged.
 #[unsafe(no_mangle)]
 pub extern "C" fn der_named_bits<'a>(
     alloc: Global,
@@ -104,7 +106,7 @@ pub extern "C" fn der_named_bits<'a>(
     }
 }
 
-/// The bits 0 to 15 of a BIT STRING with named bits.
+/// Returns the bits 0 to 15 of a BIT STRING with named bits.
 fn number_of_bits(value: NamedBitsRef<'_>) -> u32
     ensures { result ≡ bits (named_flags (contents_of value.entry)) }
 {
@@ -131,7 +133,7 @@ fn number_of_bits(value: NamedBitsRef<'_>) -> u32
 /// Reads all octets as a GeneralName (RFC 5280 4.2.1.6), and writes the number of its tag: 0 for
 /// `otherName` to 8 for `registeredID`.
 ///
-/// The answer is 0; or the number of the first fault, and `out` is unchanged.
+/// Returns 0, or the number of the first error; `out` is then unchanged.
 #[unsafe(no_mangle)]
 pub extern "C" fn der_general_name<'a>(
     alloc: Global,
@@ -151,7 +153,7 @@ pub extern "C" fn der_general_name<'a>(
     }
 }
 
-/// The number of the tag of an alternative.
+/// Returns the number of the tag of an alternative.
 fn kind_of(name: &GeneralName<'_>) -> u32
     ensures { result ≡ kind_of_name name.now }
 {

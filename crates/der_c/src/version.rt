@@ -2,7 +2,7 @@
 
 ghost use Rattle.std.specs.Prelude.{◌≡◌};
 
-/// The version of what crosses to C: it changes where a struct, a number or a promise does.
+/// Returns the version of the interface to C, which changes with a struct, a number or a promise.
 #[unsafe(no_mangle)]
 pub extern "C" fn der_abi_version() -> u32
     ensures { result ≡ 2 }

@@ -1,4 +1,4 @@
--- Encodings that are counted one after another, by their headers.
+-- Encodings are counted one after another, by their headers.
 use Rattle.std.proofs.Common.{◌≡◌, ℕ, zero, suc, ◌+◌, ◌-◌, ◌<◌, ◌≤◌, List, [], length, drop, false, Result, Ok, Err, refl, sym, ap, ◌∙◌, arith}
 use Rattle.std.proofs.Math.Seq.{take-length}
 use Rattle.std.proofs.lemmas.List.{length-append, length-drop}
@@ -21,7 +21,7 @@ use Rattle.der_nest.specs.ListLaws.{parse_each-end, parse_each-step}
 use Rattle.der_nest.specs.ReReading.{encodings_or_none}
 use Rattle.der_constrained.specs.Components.{component_count}
 
--- how many there are of these and of others; 0 where the others are not read
+-- the count plus the number of the other encodings, or 0 if the others are not read
 abbrev pub with_others : ℕ → Result (List (List ℕ)) ErrorKind → ℕ
 with_others count (Ok others) = count + length others
 with_others count (Err kind) = 0
@@ -34,11 +34,11 @@ with_one_more : (count : ℕ) (encoding : List ℕ) (others : Result (List (List
 with_one_more count encoding (Ok others) = omega arith
 with_one_more count encoding (Err kind) = refl
 
--- what a reader has before it, read as encodings, at most so many
+-- the octets left of a reader, read as at most `most` encodings
 abbrev pub left_to_read : ℕ → ReaderState → Result (List (List ℕ)) ErrorKind
 left_to_read most s = parse_each most parse_any Der s.position (rest s)
 
--- one more is counted where the next is read
+-- the count increases by one if the next encoding is read
 one_more_read : (count most p taken : ℕ) (octets encoding : List ℕ) → 0 < length octets → length octets ≤ most → parse_any Der p octets ≡ Ok (taken, encoding) → with_others count (parse_each most parse_any Der p octets) ≡ with_others (count + 1) (parse_each (most - 1) parse_any Der (p + taken) (drop taken octets))
 one_more_read count zero p taken octets encoding some enough parsed = absurd (omega arith)
 one_more_read count (suc more) p taken octets encoding some enough parsed =
@@ -47,7 +47,7 @@ one_more_read count (suc more) p taken octets encoding some enough parsed =
     ∙ with_one_more count encoding (parse_each more parse_any Der (p + taken) (drop taken octets))
     ∙ ap (λ m. with_others (count + 1) (parse_each m parse_any Der (p + taken) (drop taken octets))) one_less
 
--- none is counted where the next is not read
+-- the count is 0 if the next encoding is not read
 none_read : (count most p : ℕ) (octets : List ℕ) (kind : ErrorKind) → 0 < length octets → length octets ≤ most → parse_any Der p octets ≡ Err kind → with_others count (parse_each most parse_any Der p octets) ≡ 0
 none_read count zero p octets kind some enough fault = absurd (omega arith)
 none_read count (suc more) p octets kind some enough fault =
@@ -60,7 +60,7 @@ some_taken h =
     omega (arith, length-append (identifier h.tag) (length_octets h.length))
 
 module _ (octets : List ℕ) where
-  -- so many encodings were read, and the others stand in what is left
+  -- this number of encodings was read, and the others are in the octets left
   pub record CountedTo (now : ReaderState) (count : ℕ) : Type 0 where
     pub ready : now.failed ≡ false
     pub rules : now.rules ≡ Der
@@ -85,7 +85,7 @@ module _ (octets : List ℕ) where
 
   module _ {now : ReaderState} {count : ℕ} (so_far : CountedTo now count) where
     module _ (sound : IsReaderState now) (some : 0 < length (rest now)) {new : ReaderState} where
-      -- with the next one
+      -- the count after the next encoding
       pub one_more_counted : {header : Header} {contents : List ℕ} → ContentsRead now new header contents → CountedTo new (count + 1)
       one_more_counted {header} {contents} read =
           let at = at_header sound read.head in
@@ -108,7 +108,7 @@ module _ (octets : List ℕ) where
                 ∙ ap (λ s. with_others (count + 1) (left_to_read (so_far.most - 1) s)) (sym after);
           }
 
-      -- less is left behind it
+      -- fewer octets are left after it
       pub less_left : {header : Header} {contents : List ℕ} → ContentsRead now new header contents → length (rest new) < length (rest now)
       less_left {header} {contents} read =
           let at = at_header sound read.head in
@@ -117,13 +117,13 @@ module _ (octets : List ℕ) where
           let long = some_taken header in
           omega (arith, ap length behind, length-drop taken (rest now))
 
-      -- there are none where the next is not read
+      -- the count is 0 if the next encoding is not read
       pub not_counted : {kind : ErrorKind} → ContentsRefused now new kind → 0 ≡ component_count octets
       not_counted {kind} refused =
           let fault : parse_any Der now.position (rest now) ≡ Err kind = rw so_far.ready at (not_read_any sound Der refused).0 in
           sym (so_far.whole ∙ none_read count so_far.most now.position (rest now) kind some so_far.enough fault)
 
-    -- where nothing is left, all are counted
+    -- if no octets are left, all encodings are counted
     pub all_counted : rest now ≡ [] → count ≡ component_count octets
     all_counted none =
         sym (so_far.whole ∙ ap (with_others count) (ap (parse_each so_far.most parse_any Der now.position) none ∙ parse_each-end so_far.most parse_any Der now.position) ∙ omega arith)

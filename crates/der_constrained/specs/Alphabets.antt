@@ -6,7 +6,7 @@ use Rattle.std.specs.List.{list_all}
 abbrev pub characters : ℕ → ℕ → ℕ → Bool
 characters first last octet = nat_le first octet && nat_le octet last
 
--- those of either set
+-- the characters of either set
 abbrev pub either_set : (ℕ → Bool) → (ℕ → Bool) → ℕ → Bool
 either_set first other octet = first octet || other octet
 

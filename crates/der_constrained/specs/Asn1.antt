@@ -3,7 +3,7 @@ use Rattle.std.specs.Prelude.{ℕ, List, Bool, ◌||◌, ◌&&◌, not}
 use Rattle.der_modules.specs.Asn1.{Grammar, one, only, any_of}
 use Rattle.der_constrained.specs.Allowed.{parse_allowed}
 
--- a type of which only some values are allowed: the others are refused (13)
+-- a type with only some of its values allowed: the others are refused (13)
 abbrev pub ALLOWED : (List ℕ → Bool) → Grammar → Grammar
 ALLOWED allows (one t contents) = one t (parse_allowed t allows contents)
 ALLOWED allows (only t contents) = only t (parse_allowed t allows contents)

@@ -11,10 +11,10 @@ in_range least greatest integer = int_le least integer && int_le integer greates
 abbrev pub range : ℤ → ℤ → List ℕ → Bool
 range least greatest octets = in_range least greatest (twos_complement octets)
 
--- an integer's contents octets are in the range where it is
+-- the contents octets of an integer are in the range if and only if it is
 pub range_of_integer : (least greatest integer : ℤ) → range least greatest (integer_contents integer) ≡ in_range least greatest integer
 range_of_integer least greatest integer = ap (in_range least greatest) (twos_complement_integer_contents integer)
 
--- the same of a number that is not negative
+-- the contents octets of a number that is not negative are in the range if and only if it is
 pub range_of_natural : (least greatest : ℤ) (number : ℕ) → range least greatest (natural_contents number) ≡ in_range least greatest (pos number)
 range_of_natural least greatest number = ap (range least greatest) (sym (integer_contents-pos number)) ∙ range_of_integer least greatest (pos number)

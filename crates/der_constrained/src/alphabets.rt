@@ -1,4 +1,4 @@
-//! Permitted alphabets (X.680 51.7), of strings whose characters have one octet each.
+//! Permitted alphabets (X.680 51.7) of strings whose characters have one octet each.
 
 ghost use Rattle.std.specs.Prelude.{◌≡◌, ℕ, Bool};
 ghost use Rattle.der_constrained.specs.Alphabets.{characters, either_set, permitted};
@@ -13,12 +13,12 @@ pub trait CharacterSet {
     // whether the character is one of the set
     ghost has: { ℕ → Bool };
 
-    /// Whether the character is one of the set.
+    /// Returns whether the character is one of the set.
     fn has(octet: u8) -> bool
         ensures { result ≡ has octet };
 }
 
-/// `"FIRST".."LAST"`: the characters between two, and both.
+/// `"FIRST".."LAST"`: the characters from one to another, both included.
 pub struct CharacterRange<const FIRST: u8, const LAST: u8>;
 
 impl<const FIRST: u8, const LAST: u8> CharacterSet for CharacterRange<FIRST, LAST> {
@@ -47,7 +47,7 @@ pub struct HasCharacters<S> {
     set: PhantomData<S>,
 }
 
-/// Whether each octet is a character of the set.
+/// Returns whether each octet is a character of the set.
 fn are_permitted<S: CharacterSet>(octets: &[u8]) -> bool
     ensures { result ≡ permitted S.has octets.now }
 {

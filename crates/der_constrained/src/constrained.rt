@@ -1,8 +1,8 @@
-//! A type of which a constraint allows some values (X.680 49.8).
+//! A type with a constraint on its values (X.680 49.8).
 //!
-//! It has the tag, the octets, the order and the faults of the type that it constrains: `INTEGER
-//! (0..10)` of 5 is encoded as 02 01 05. Of octets that are read as another value the fault is
-//! `ErrorKind::Value` (13), with the type's tag, after the type's own faults.
+//! It has the tag, the octets, the order and the errors of the type that it constrains: 5 as an
+//! `INTEGER (0..10)` is encoded as 02 01 05. Octets that are read as any other value return
+//! `ErrorKind::Value` (13) with the tag of the type; errors of the type itself come first.
 
 ghost use Rattle.std.specs.Prelude.{◌≡◌, true};
 ghost use Rattle.std.specs.Cmp.{on_per, on_equiv};
@@ -31,10 +31,10 @@ pub struct Constrained<T, C> {
 }
 
 impl<T: FormValue + OneTag, C: Constraint<T>> Constrained<T, C> {
-    /// The value, where the constraint allows it.
+    /// Keeps a value if the constraint allows it.
     ///
     /// # Errors
-    /// `ErrorKind::Value` (13) with the type's tag for another.
+    /// `ErrorKind::Value` (13) with the tag of the type for any other value.
     pub fn new(value: T) -> Result<Constrained<T, C>, Error>
         ensures { KeepsAllowed T.Marker.TAG T.value.contents C.allows value result }
     {
@@ -53,7 +53,7 @@ impl<T, C> Deref for Constrained<T, C> {
 
     ghost deref_gives = { λ constrained value. value ≡ value_of constrained };
 
-    /// The value.
+    /// Returns the value.
     fn deref(&self) -> &T {
         &self.value
     }
@@ -76,7 +76,7 @@ impl<T: Clone, C> Clone for Constrained<T, C> {
 impl<T: Copy, C> Copy for Constrained<T, C> {}
 
 impl<T: fmt::Debug, C> fmt::Debug for Constrained<T, C> {
-    /// The value, as it is shown by itself.
+    /// Formats the value as it formats itself.
     fn fmt<W: fmt::Write>(&self, f: &mut fmt::Formatter<W>) -> fmt::Result {
         fmt::Debug::fmt(&self.value, f)
     }

@@ -1,4 +1,4 @@
-//! Constraints, each named by a type, and the sets that they make (X.680 50).
+//! Constraints as types, and the sets that they make (X.680 50).
 
 ghost use Rattle.std.specs.Prelude.{◌≡◌, ℕ, List, Bool};
 ghost use Rattle.der_constrained.specs.Asn1.{union, intersection, all_except};
@@ -6,12 +6,12 @@ ghost use Rattle.der_constrained.specs.Asn1.{union, intersection, all_except};
 use der_elem::FormValue;
 use std::marker::PhantomData;
 
-/// Which values of a type are allowed.
+/// A test for the allowed values of a type.
 pub trait Constraint<T: FormValue> {
-    // whether contents octets are those of a value that is allowed
+    // whether contents octets are those of an allowed value
     ghost allows: { List ℕ → Bool };
 
-    /// Whether the value is allowed.
+    /// Returns whether the value is allowed.
     fn allows(value: &T) -> bool
         ensures { result ≡ allows (T.value.contents value.now) };
 }

@@ -1,4 +1,4 @@
-//! Ranges of INTEGER (X.680 51.4), of the machine integers.
+//! Ranges of INTEGER (X.680 51.4) for the machine integers.
 
 ghost use Rattle.std.specs.Prelude.{◌≡◌};
 ghost use Rattle.der_constrained.specs.Integers.{in_range, range};
@@ -8,7 +8,7 @@ use crate::constraint::Constraint;
 /// `INTEGER (LEAST..GREATEST)`.
 pub struct InRange<const LEAST: i64, const GREATEST: i64>;
 
-/// Whether the number is in the range.
+/// Returns whether the number is in the range.
 fn is_in_range(least: i64, greatest: i64, number: i128) -> bool
     ensures { result ≡ in_range least greatest number }
 {

@@ -1,4 +1,4 @@
-//! Types of which a constraint allows some values (X.680 49 to 51): ranges of INTEGER, sizes of strings
+//! Types with a constraint on their values (X.680 49 to 51): ranges of INTEGER, sizes of strings
 //! and lists, permitted alphabets of strings, and unions and intersections of these.
 //!
 //! ```rust

@@ -14,18 +14,18 @@ use der_opaque::OctetStringRef;
 use der_simple::SimpleStringRef;
 use der_text::Utf8StringRef;
 
-/// `SIZE (LEAST..GREATEST)`: of a string of characters how many there are, of an OCTET STRING how
-/// many octets, of a BIT STRING how many bits, of a SEQUENCE OF or a SET OF how many components.
+/// `SIZE (LEAST..GREATEST)`: the number of characters of a string of characters, of octets of an
+/// OCTET STRING, of bits of a BIT STRING, or of components of a SEQUENCE OF or a SET OF.
 pub struct HasSize<const LEAST: u32, const GREATEST: u32>;
 
-/// Whether the size is allowed.
+/// Returns whether the size is allowed.
 fn is_in_sizes(least: u32, greatest: u32, size: usize) -> bool
     ensures { result ≡ in_sizes least greatest size }
 {
     least as usize <= size && size <= greatest as usize
 }
 
-/// Whether the number of encodings that the octets are is allowed.
+/// Returns whether the number of encodings in the octets is allowed.
 fn components_in_sizes(least: u32, greatest: u32, octets: &[u8]) -> bool
     requires { length octets.now < 2 ^ 32 }
     ensures { result ≡ size_in_components least greatest octets.now }
@@ -33,7 +33,7 @@ fn components_in_sizes(least: u32, greatest: u32, octets: &[u8]) -> bool
     is_in_sizes(least, greatest, count_components(octets))
 }
 
-/// How many characters a text has.
+/// Returns the number of characters in a text.
 #[tactic(auto, using(std::proofs::lemmas::Str::chars_from_encodes))]
 fn character_count(text: &str) -> usize
     ensures { result ≡ length (chars text.now) }

@@ -8,10 +8,10 @@ use Rattle.der_modules.specs.Asn1.{joined}
 abbrev pub extension_request : List ℕ
 extension_request = 42 ∷ 134 ∷ 72 ∷ 134 ∷ 247 ∷ 13 ∷ 1 ∷ 9 ∷ 14 ∷ []
 
--- Attribute, of which the extensions with this encoding are the only value
+-- Attribute whose only value is the extensions with this encoding
 abbrev pub attribute_octets : List ℕ → List ℕ
 attribute_octets extensions = tlv tags.Sequence (joined (tlv tags.ObjectIdentifier extension_request ∷ tlv tags.Set extensions ∷ []))
 
--- Attributes, of which this one is the only one
+-- Attributes with only this attribute
 abbrev pub attributes_octets : List ℕ → List ℕ
 attributes_octets extensions = tlv tags.Set (attribute_octets extensions)

@@ -1,4 +1,4 @@
--- The numbers of OCSPResponseStatus (RFC 6960, 4.2.1), in which 4 is not used.
+-- The numbers of OCSPResponseStatus (RFC 6960, 4.2.1), which does not use 4.
 use Rattle.std.specs.Prelude.{◌≡◌, refl, List, [], ◌∷◌, ℤ, pos, Some}
 use Rattle.der_asn1_types.specs.Enumerated.{Names, named}
 use Rattle.der_examples.specs.declared.named_numbers.ResponseStatus.{ResponseStatus}

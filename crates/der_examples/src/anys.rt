@@ -9,8 +9,8 @@ use der_asn1_types::asn1::{AnyRef, ObjectIdentifier};
 use der_asn1_types::{Error, Form, FormValue, Tagged};
 use std::alloc::Global;
 
-/// The parameters of an algorithm, where they are the identifier of a curve: refused where they
-/// have another tag, or are no identifier.
+/// Reads the parameters of an algorithm as the identifier of a curve. Parameters with another
+/// tag, or that are no identifier, are refused.
 pub fn named_curve<'a>(alloc: Global, parameters: AnyRef<'a>) -> Result<ObjectIdentifier<39>, Error>
     ensures { DecodesAs ⟦<ObjectIdentifier<39> as Form>⟧ ⟦<ObjectIdentifier<39> as FormValue>⟧.value Der
         (tag_of parameters.entry) (contents_of parameters.entry) result }

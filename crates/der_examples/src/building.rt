@@ -1,5 +1,5 @@
-//! What is signed of a certificate and of a request for one, built from a name, a key and extensions.
-//! `to_der` writes the octets that the signature covers.
+//! The signed part of a certificate and of a request for one, built from a name, a key and
+//! extensions. `to_der` writes the octets that the signature covers.
 
 ghost use Rattle.std.specs.Prelude.{◌≡◌, None, Some, IfOk};
 ghost use Rattle.der_examples.specs.ExtensionRequests.{attribute_octets, attributes_octets};
@@ -20,25 +20,25 @@ use der_pkix::key::Attributes;
 use der_pkix::name::{Attribute, Name};
 use std::alloc::Global;
 
-/// What a self-signed certificate says beside its extensions.
+/// The fields of a self-signed certificate, without its extensions.
 #[derive(Clone, Copy)]
 pub struct SelfSigned<'a> {
     /// A serial number, which is positive.
     pub serial_number: IntRef<'a>,
     /// The algorithm of the signature.
     pub signature: AlgorithmIdentifier<'a>,
-    /// The encoding of the name, which is the issuer's and the subject's.
+    /// The encoding of the name of the issuer, who is also the subject.
     pub name: &'a [u8],
-    /// From when and to when it holds.
+    /// The first and the last moment at which the certificate is valid.
     pub validity: Validity,
     /// The public key.
     pub key: SubjectPublicKeyInfo<'a>,
 }
 
-/// What is signed of a self-signed certificate of version 3 (RFC 5280 section 4.1).
+/// Makes the signed part of a self-signed certificate of version 3 (RFC 5280 section 4.1).
 ///
 /// # Errors
-/// The first fault of the name.
+/// The first error in the name.
 pub fn self_signed<'a>(
     alloc: Global,
     of: &SelfSigned<'a>,
@@ -72,10 +72,10 @@ pub fn self_signed<'a>(
     ))
 }
 
-/// What is signed of a request (RFC 2986 section 4.1), with these attributes.
+/// Makes the signed part of a request (RFC 2986 section 4.1), with these attributes.
 ///
 /// # Errors
-/// The first fault of the name.
+/// The first error in the name.
 pub fn request_for<'a>(
     alloc: Global,
     name: &'a [u8],
@@ -99,12 +99,13 @@ pub fn request_for<'a>(
     ))
 }
 
-/// The encoding of the attributes of a request that asks for these extensions: one attribute, of which
-/// they are the only value (RFC 2985 section 5.4.2). `Attributes::from_der` reads it.
+/// Returns the encoding of the attributes of a request that asks for these extensions: one
+/// attribute, whose only value they are (RFC 2985 section 5.4.2). `Attributes::from_der` reads
+/// it.
 ///
 /// # Errors
-/// `ErrorKind::Overflow` (9) for more than 4294967295 octets; `ErrorKind::Memory` (1) where memory runs
-/// out.
+/// `ErrorKind::Overflow` (9) for more than 4294967295 octets; `ErrorKind::Memory` (1) if memory
+/// runs out.
 pub fn extension_request<'a>(alloc: Global, extensions: &Extensions<'a>) -> Result<Vec<u8>, Error>
     ensures { IfOk result (λ octets. octets.items
         ≡ attributes_octets (⟦<Extensions<'a> as Form>⟧.encoding extensions.now)) }
@@ -117,7 +118,8 @@ pub fn extension_request<'a>(alloc: Global, extensions: &Extensions<'a>) -> Resu
     }
 }
 
-/// The encoding of the attribute with which a request asks for extensions, which have this encoding.
+/// Returns the encoding of the attribute with which a request asks for extensions with this
+/// encoding.
 fn asking_for(alloc: Global, extensions: &[u8]) -> Result<Vec<u8>, Error>
     ensures { IfOk result (λ octets. octets.items ≡ attribute_octets extensions.now) }
 {
@@ -131,7 +133,7 @@ fn asking_for(alloc: Global, extensions: &[u8]) -> Result<Vec<u8>, Error>
     }
 }
 
-/// The name of these octets.
+/// Reads the name from these octets.
 fn name_of<'a>(alloc: Global, octets: &'a [u8]) -> Result<Name<'a>, Error>
     ensures { IfOk result (λ name. ⟦<Name<'a> as Form>⟧.encoding name ≡ octets.now) }
 {

@@ -1,4 +1,4 @@
-//! Certificates, by the names of their fields.
+//! Certificates and the names of their fields.
 
 ghost use Rattle.der_asn1_types.specs.Decoding.{ReadsAll};
 
@@ -7,15 +7,16 @@ use der_asn1_types::{Error, Form, FromDer};
 use der_pkix::certificate::Certificate;
 use std::alloc::Global;
 
-/// A certificate: exactly the octets that RFC 5280's grammar reads as one are taken, and the answer
-/// is what it reads. Otherwise the answer is the first fault.
+/// Reads a certificate. It accepts exactly the octets that RFC 5280's grammar reads as one, and
+/// returns the value that the grammar reads; for any other octets it returns the first error.
 pub fn read_certificate<'a>(alloc: Global, octets: &'a [u8]) -> Result<Certificate<'a>, Error>
     ensures { ReadsAll ⟦<Certificate<'a> as Form>⟧ octets.now result }
 {
     Certificate::from_der(alloc, octets)
 }
 
-/// The serial number of a certificate, and whether its issuer has the name of its subject.
+/// Returns the serial number of a certificate, and whether its issuer has the name of its
+/// subject.
 pub fn serial_and_self_issued<'a>(
     alloc: Global,
     octets: &'a [u8],

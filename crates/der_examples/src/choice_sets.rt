@@ -1,4 +1,4 @@
-//! Sets of a CHOICE and of values of any type, whose order is named by a type.
+//! Sets of a CHOICE and of values of any type, ordered by a type that names the order.
 
 ghost use Rattle.std.specs.Prelude.{◌≡◌, refl, IfOk, OnOk, OnErr};
 ghost use Rattle.der_asn1_types.specs.Decoding.{ReadsAll};
@@ -32,14 +32,14 @@ pub fn read_key_names<'a>(alloc: Global, octets: &'a [u8]) -> Result<KeyNames<'a
     KeyNames::<'a>::from_der(alloc, octets)
 }
 
-/// The one encoding of names of keys.
+/// Returns the canonical encoding of names of keys.
 pub fn write_key_names<'a>(alloc: Global, names: &KeyNames<'a>) -> Result<Vec<u8>, Error>
     ensures { IfOk result (λ octets. octets.items ≡ ⟦<KeyNames<'a> as Form>⟧.encoding names.now) }
 {
     names.to_der(alloc)
 }
 
-/// `SET OF AttributeValue`, of which each is a value of any type.
+/// `SET OF AttributeValue`, each a value of any type.
 pub type AttributeValues<'a> = ItemSet<AnyRef<'a>, Values>;
 
 /// Reads the values of an attribute, in any order.
@@ -49,7 +49,7 @@ pub fn read_values<'a>(alloc: Global, octets: &'a [u8]) -> Result<AttributeValue
     AttributeValues::<'a>::from_der(alloc, octets)
 }
 
-/// Puts a value into the set at its place. Where that is refused, the set is as it was.
+/// Inserts a value into the set in order. If this fails, the set is unchanged.
 pub fn with_value<'a>(set: &mut AttributeValues<'a>, value: AnyRef<'a>) -> Result<(), Error>
     ensures placed { OnOk result
         (set.new ≡ insert_in_order ⟦<AnyRef<'a> as Form>⟧.encoding set.old value.entry) }

@@ -1,4 +1,4 @@
-//! A SEQUENCE of one's own, in a line a field.
+//! A SEQUENCE that a user defines, one line for each field.
 
 ghost use Rattle.std.specs.Prelude.{◌≡◌, ◌↔◌, IsTrue, IfOk};
 ghost use Rattle.der_asn1_types.specs.Decoding.{ReadsAll};
@@ -19,22 +19,22 @@ pub type PolicyList<'a> = Fields3<
 /// A policy.
 pub type Policy<'a> = FieldSequence<PolicyList<'a>>;
 
-/// Reads a policy: exactly the octets that the grammar reads as one are taken.
+/// Reads a policy. It accepts exactly the octets that the grammar reads as one.
 pub fn read_policy<'a>(alloc: Global, octets: &'a [u8]) -> Result<Policy<'a>, Error>
     ensures { ReadsAll ⟦<Policy<'a> as Form>⟧ octets.now result }
 {
     Policy::from_der(alloc, octets)
 }
 
-/// The one encoding of a policy.
+/// Returns the canonical encoding of a policy.
 pub fn write_policy<'a>(alloc: Global, policy: &Policy<'a>) -> Result<Vec<u8>, Error>
     ensures { IfOk result (λ octets. octets.items ≡ ⟦<Policy<'a> as Form>⟧.encoding policy.now) }
 {
     policy.to_der(alloc)
 }
 
-/// Whether two policies have the same encoding. The prover computes that the tags of their fields are
-/// distinct, so nothing is asked of the policies.
+/// Returns whether two policies have the same encoding. The prover computes that the tags of
+/// their fields are distinct, so the policies need no condition.
 pub fn is_same_policy<'a>(policy: &Policy<'a>, other: &Policy<'a>) -> bool
     ensures { IsTrue result ↔ (⟦<Policy<'a> as Form>⟧.encoding policy.now
         ≡ ⟦<Policy<'a> as Form>⟧.encoding other.now) }
@@ -43,7 +43,7 @@ pub fn is_same_policy<'a>(policy: &Policy<'a>, other: &Policy<'a>) -> bool
     policy == other
 }
 
-/// A copy of a policy, which is equal to it.
+/// Returns a copy of a policy, which is equal to it.
 ///
 /// # Errors
 /// None: a policy takes no memory to copy.

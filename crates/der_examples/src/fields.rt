@@ -1,14 +1,14 @@
 //! A SEQUENCE read by hand: an OBJECT IDENTIFIER, an OCTET STRING that may be absent, and
 //! `[0] IMPLICIT INTEGER` that may be absent.
 //!
-//! This needs no contract and no proof, and says less than a list of fields, which has the whole
-//! meaning of a SEQUENCE.
+//! This needs no contract and no proof, but states less than a list of fields, which states the
+//! whole meaning of a SEQUENCE.
 
 use der_asn1_types::asn1::{ContextSpecific, ObjectIdentifier, OctetStringRef};
 use der_asn1_types::{Decode, Error, Header, Reader, SliceReader, Tag, TagNumber};
 use std::alloc::Global;
 
-/// What was read.
+/// The fields that were read.
 #[derive(Drop)]
 pub struct PolicyFields<'a> {
     /// The policy.
@@ -22,7 +22,7 @@ pub struct PolicyFields<'a> {
 /// Reads a policy from all of the octets.
 ///
 /// # Errors
-/// The first fault, in reading order.
+/// The first error, in reading order.
 pub fn read_policy_fields<'a>(alloc: Global, octets: &'a [u8]) -> Result<PolicyFields<'a>, Error> {
     let mut reader = match SliceReader::new(octets) {
         Ok(reader) => reader,
@@ -31,7 +31,7 @@ pub fn read_policy_fields<'a>(alloc: Global, octets: &'a [u8]) -> Result<PolicyF
     let header = Header::decode(&mut reader)?;
     header.tag.assert_eq(Tag::Sequence)?;
     let end = reader.nest(header.length)?;
-    // `?` on a type that borrows or that keeps a fact of its own is a `match`.
+    // For a type that borrows, or that keeps a fact of its own, `?` is written as a `match`.
     let identifier = match ObjectIdentifier::<39>::decode(alloc, &mut reader) {
         Ok(identifier) => identifier,
         Err(e) => return Err(e),

@@ -1,4 +1,4 @@
-//! What a set has after calls of several kinds, by the law alone.
+//! The contents of a set after several calls, by a law.
 
 ghost use Rattle.std.specs.Prelude.{[], ◌∷◌, ◌++◌, IfOk};
 ghost use Rattle.der_asn1_types.specs.Stable.{IsSetOf};
@@ -8,8 +8,8 @@ use der_asn1_types::laws::set_of_what_came;
 use der_asn1_types::{DerOrd, Error};
 use std::alloc::Global;
 
-/// A set of the items of an array, of one that is inserted, and of one at the end: the one list of
-/// these five, of which no encoding is less than the one before it.
+/// Makes a set of the items of an array, one that is inserted, and one that is added at the end:
+/// the only list of these five items in which no encoding is less than the one before it.
 pub fn set_of_three_calls<T: DerOrd + Copy>(
     alloc: Global,
     items: [T; 3],

@@ -1,5 +1,5 @@
-//! Callers of the layer, each a task of a user, with a contract of its own that the prover has
-//! accepted. They stand on `der_asn1_types`, and on `der_pkix` where messages are read.
+//! Examples for users of the layer: each is a task with its own contract, which the prover has
+//! accepted. They use `der_asn1_types`, and `der_pkix` to read messages.
 #![tactic(auto)]
 
 mod anys;

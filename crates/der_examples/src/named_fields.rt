@@ -1,4 +1,4 @@
-//! A SEQUENCE of one's own with names for its fields.
+//! A SEQUENCE that a user defines, with names for its fields.
 
 ghost use Rattle.std.specs.Prelude.{◌≡◌, ◌↔◌, IsTrue, IfOk};
 ghost use Rattle.der_asn1_types.specs.Decoding.{ReadsAll};
@@ -15,9 +15,9 @@ use std::alloc::Global;
 /// The fields of a policy, by their names.
 #[derive(Clone, Copy, Debug)]
 pub struct PolicyMembers<'a> {
-    /// What the policy is.
+    /// The identifier of the policy.
     pub identifier: ObjectIdentifier<39>,
-    /// What is said of it.
+    /// Information about the policy.
     pub qualifier: Option<OctetStringRef<'a>>,
     /// `[0] IMPLICIT INTEGER OPTIONAL`.
     pub version: Option<Implicit<u8, 0>>,
@@ -43,21 +43,21 @@ impl<'a> NamedFields for PolicyMembers<'a> {
 /// A policy, whose fields have names.
 pub type NamedPolicy<'a> = NamedSequence<PolicyMembers<'a>>;
 
-/// Reads a policy: exactly the octets that the grammar reads as one are taken.
+/// Reads a policy. It accepts exactly the octets that the grammar reads as one.
 pub fn read_named_policy<'a>(alloc: Global, octets: &'a [u8]) -> Result<NamedPolicy<'a>, Error>
     ensures { ReadsAll ⟦<NamedPolicy<'a> as Form>⟧ octets.now result }
 {
     NamedPolicy::from_der(alloc, octets)
 }
 
-/// The one encoding of a policy.
+/// Returns the canonical encoding of a policy.
 pub fn write_named_policy<'a>(alloc: Global, policy: &NamedPolicy<'a>) -> Result<Vec<u8>, Error>
     ensures { IfOk result (λ octets. octets.items ≡ ⟦<NamedPolicy<'a> as Form>⟧.encoding policy.now) }
 {
     policy.to_der(alloc)
 }
 
-/// Whether two policies have the same encoding.
+/// Returns whether two policies have the same encoding.
 pub fn is_same_named_policy<'a>(policy: &NamedPolicy<'a>, other: &NamedPolicy<'a>) -> bool
     ensures { IsTrue result ↔ (⟦<NamedPolicy<'a> as Form>⟧.encoding policy.now
         ≡ ⟦<NamedPolicy<'a> as Form>⟧.encoding other.now) }

@@ -1,4 +1,4 @@
-//! An ENUMERATED of one's own: the numbers of an `enum`.
+//! An ENUMERATED that a user defines: the numbers of an `enum`.
 
 ghost use Rattle.der_asn1_types.specs.Decoding.{ReadsAll};
 ghost use Rattle.der_asn1_types.specs.SequenceWriting.{WritesAll};
@@ -8,20 +8,20 @@ use der_asn1_types::asn1::{Enumerated, Enumeration};
 use der_asn1_types::{Encode, EnumeratedTag, Error, Form, FromDer};
 use std::alloc::Global;
 
-/// What a responder answers: OCSPResponseStatus (RFC 6960, 4.2.1), an ENUMERATED without 4.
+/// The status of a response: OCSPResponseStatus (RFC 6960, 4.2.1), an ENUMERATED without 4.
 #[derive(Clone, Copy, Debug, PartialEq, Eq)]
 pub enum ResponseStatus {
-    /// The answer is there (0).
+    /// The response is present (0).
     Successful,
-    /// The question could not be read (1).
+    /// The request could not be read (1).
     MalformedRequest,
-    /// A fault of the responder (2).
+    /// An error in the responder (2).
     InternalError,
-    /// Ask again (3).
+    /// Try again (3).
     TryLater,
-    /// The question has to be signed (5).
+    /// The request must be signed (5).
     SigRequired,
-    /// Who asked may not (6).
+    /// The requester is not authorized (6).
     Unauthorized,
 }
 
@@ -54,14 +54,14 @@ impl Enumeration for ResponseStatus {
     }
 }
 
-/// A status, read from all of the octets, under DER; a number without a name is refused.
+/// Reads a status from all of the octets, under DER; a number without a name is refused.
 pub fn read_status(alloc: Global, octets: &[u8]) -> Result<Enumerated<ResponseStatus>, Error>
     ensures { ReadsAll ⟦<Enumerated<ResponseStatus> as Form>⟧ octets.now result }
 {
     Enumerated::<ResponseStatus>::from_der(alloc, octets)
 }
 
-/// The one encoding of a status.
+/// Returns the canonical encoding of a status.
 pub fn write_status(alloc: Global, status: &Enumerated<ResponseStatus>) -> Result<Vec<u8>, Error>
     ensures { WritesAll ⟦<Enumerated<ResponseStatus> as Form>⟧ status.now result }
 {

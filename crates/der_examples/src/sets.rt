@@ -1,4 +1,4 @@
-//! Sets, whose items stand in the order of their encodings.
+//! Sets, whose items are in the order of their encodings.
 
 ghost use Rattle.std.specs.Prelude.{◌≡◌, [], OnOk, OnErr, IfOk};
 ghost use Rattle.der_asn1_types.specs.HeaderOctets.{tlv};
@@ -10,14 +10,14 @@ use der_asn1_types::Error;
 use der_asn1_types::asn1::SetOfVec;
 use std::alloc::Global;
 
-/// A set of four numbers, put in order.
+/// Makes a set of four numbers, in order.
 pub fn attribute_set(alloc: Global, numbers: [u16; 4]) -> Result<SetOfVec<u16>, Error>
     ensures { IfOk result (λ set. set ≡ insert_each (λ n. tlv Integer (natural_contents n)) [] numbers) }
 {
     SetOfVec::from_array(alloc, numbers)
 }
 
-/// Puts a number into a set at its place. Where that is refused, the set is as it was.
+/// Inserts a number into a set in order. If this fails, the set is unchanged.
 pub fn with_attribute(set: &mut SetOfVec<u16>, number: u16) -> Result<(), Error>
     ensures placed { OnOk result
         (set.new ≡ insert_in_order (λ n. tlv Integer (natural_contents n)) set.old number) }

@@ -1,4 +1,4 @@
-//! A source of one's own, which all that reads takes.
+//! A source that a user defines, which all readers accept.
 
 ghost use Rattle.std.specs.Prelude.{◌≤◌, ◌<◌, ◌^◌, ◌↔◌, length, IsOk};
 ghost use Rattle.der_asn1_types.specs.Decoding.{Decodes};
@@ -7,7 +7,7 @@ ghost use Rattle.der_asn1_types.specs.ReaderState.{ReaderState};
 use der_asn1_types::{Cursor, Decode, EncodingRules, Error, Length, Source};
 use std::alloc::Global;
 
-/// A source that knows how far it has been read, also where reading went back since.
+/// A source that knows the furthest position that was read, even if reading went back since.
 #[derive(Drop)]
 pub struct Watched<'a> {
     octets: &'a [u8],
@@ -20,7 +20,7 @@ pub struct Watched<'a> {
 }
 
 impl<'a> Watched<'a> {
-    /// A source of all of the octets, under DER.
+    /// Makes a source of all of the octets, under DER.
     ///
     /// # Errors
     /// `ErrorKind::Overflow` (9) for more than 4294967295 octets.
@@ -42,7 +42,7 @@ impl<'a> Watched<'a> {
         }
     }
 
-    /// How many octets stand before the furthest position that it has had.
+    /// Returns the furthest position so far.
     pub fn furthest(&self) -> u32
         ensures { (⟦<Watched<'a> as Source<'a>>⟧.state self.now).position ≤ result }
     {
@@ -72,7 +72,7 @@ impl<'a> Source<'a> for Watched<'a> {
 /// Reads a value of any type from the source.
 ///
 /// # Errors
-/// As `Decode::decode` of the type.
+/// The errors of `Decode::decode` of the type.
 pub fn read_watched<'a, T: Decode<'a, Watched<'a>>>(
     alloc: Global,
     source: &mut Watched<'a>,

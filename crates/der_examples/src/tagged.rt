@@ -6,7 +6,7 @@ use der_asn1_types::asn1::ContextSpecific;
 use der_asn1_types::{Encode, Error, Form, TagMode, TagNumber};
 use std::alloc::Global;
 
-/// The encoding of a version as `[0] EXPLICIT INTEGER`, as A0 03 02 01 02 for 2.
+/// Returns the encoding of a version as `[0] EXPLICIT INTEGER`, such as A0 03 02 01 02 for 2.
 pub fn explicit_version(alloc: Global, version: u8) -> Result<Vec<u8>, Error>
     ensures { IfOk result (λ octets.
         octets.items ≡ ⟦<ContextSpecific<u8> as Form>⟧.encoding

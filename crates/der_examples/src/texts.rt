@@ -1,4 +1,4 @@
-//! Names, which are strings of several types.
+//! Texts of names, which are strings of several types.
 
 ghost use Rattle.std.specs.Prelude.{◌≡◌, ◌↔◌, IsOk, IfOk, ◌^◌, ◌<◌, length, true};
 ghost use Rattle.der_asn1_types.specs.Characters.{are_characters};
@@ -9,7 +9,7 @@ use der_asn1_types::asn1::{PrintableStringRef, Utf8StringRef};
 use der_asn1_types::{Error, Form, FormValue, FromDer};
 use std::alloc::Global;
 
-/// A country as a PrintableString, borrowed: its contents octets are these.
+/// Makes a country as a PrintableString that borrows these contents octets.
 pub fn country<'a>(octets: &'a [u8]) -> Result<PrintableStringRef<'a>, Error>
     ensures { IfOk result (λ country.
         (octets_of country ≡ octets.now) × (are_characters 19 octets.now ≡ true)) }
@@ -17,7 +17,8 @@ pub fn country<'a>(octets: &'a [u8]) -> Result<PrintableStringRef<'a>, Error>
     PrintableStringRef::new(octets)
 }
 
-/// A common name, borrowed from its encoding as a UTF8String: octets that are not UTF-8 are refused.
+/// Reads a common name that borrows its encoding as a UTF8String. Octets that are not UTF-8 are
+/// refused.
 pub fn common_name<'a>(alloc: Global, octets: &'a [u8]) -> Result<Utf8StringRef<'a>, Error>
     ensures { ReadsAll ⟦<Utf8StringRef<'a> as Form>⟧ octets.now result }
 {

@@ -1,5 +1,5 @@
-//! The first six fields of the TSTInfo of RFC 3161: a message as a user of lists of fields writes it.
-//! The imprint and the accuracy are kept as they are encoded.
+//! The first six fields of the TSTInfo of RFC 3161: a message that a user defines with a list of
+//! fields. The imprint and the accuracy are kept as their encodings.
 
 ghost use Rattle.der_asn1_types.specs.Decoding.{ReadsAll};
 
@@ -12,7 +12,7 @@ pub type TstInfo<'a> = FieldSequence<
     Fields6<u8, ObjectIdentifier<39>, AnyRef<'a>, IntRef<'a>, GeneralizedTime, Option<AnyRef<'a>>>,
 >;
 
-/// The fields that the octets are read as: all of them, under DER.
+/// Reads the fields from all of the octets, under DER.
 pub fn read_tst_info<'a>(alloc: Global, octets: &'a [u8]) -> Result<TstInfo<'a>, Error>
     ensures { ReadsAll ⟦<TstInfo<'a> as Form>⟧ octets.now result }
 {

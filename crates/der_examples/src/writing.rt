@@ -8,7 +8,7 @@ ghost use Rattle.der_asn1_types.specs.Integer.{integer_contents, natural_content
 use der_asn1_types::{Encode, Error};
 use std::alloc::Global;
 
-/// The one encoding of a list of numbers, in memory.
+/// Returns the canonical encoding of a list of numbers, in memory.
 pub fn write_numbers(alloc: Global, numbers: &Vec<i64>) -> Result<Vec<u8>, Error>
     ensures { IfOk result (λ octets. octets.items ≡ tlv tags.Sequence
         (flat_map (λ n. tlv tags.Integer (integer_contents n)) numbers.now.items)) }
@@ -16,7 +16,7 @@ pub fn write_numbers(alloc: Global, numbers: &Vec<i64>) -> Result<Vec<u8>, Error
     numbers.to_der(alloc)
 }
 
-/// The encoding of a number, written into a buffer: no memory is taken.
+/// Writes the encoding of a number to a buffer, and takes no memory.
 pub fn number_in(number: u32, buffer: &mut [u8]) -> Result<&[u8], Error>
     ensures { IfOk result (λ octets. octets.now ≡ tlv tags.Integer (natural_contents number)) }
 {

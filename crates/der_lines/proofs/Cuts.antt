@@ -1,4 +1,4 @@
--- Where a text is cut between two lines, and what was answered there.
+-- The cut of a text between two lines, and the lines that were answered before it.
 use Rattle.std.proofs.Common.{◌≡◌, ◌≢◌, ◌⊎◌, inl, inr, ℕ, ◌+◌, ◌<◌, List, [], ◌∷◌, ◌++◌, Option, None, Some, IfSome, Result, Ok, Err, OnErr, cond, length, refl, sym, ap, subst, Bool, true, false, eqb, ◌∙◌, arith, append_assoc, append-nil, length-append, ne_eqb}
 use Rattle.std.proofs.lemmas.List.Elements.{All-nil, All-cons, All-append, All-head, All-tail}
 use Rattle.std.proofs.lemmas.Grind.{flat_map-append}
@@ -46,14 +46,14 @@ lines_of-some (octet ∷ text) some = either (eqb octet 10) (lines_of text)
     either true lines = omega arith
     either false lines = front_some lines
 
--- known octets that lose a front
+-- known octets without their front
 pub consumed : (before after : Option (List ℕ)) (rest part : List ℕ) → before ≡ Some rest → Consumes before after part
     → (left : List ℕ) × (after ≡ Some left) × (rest ≡ part ++ left)
 consumed None after rest part e taken = cc
 consumed (Some known) None rest part e taken = absurd taken
 consumed (Some known) (Some left) rest part e taken = let same : rest ≡ known = cc in (left, refl, same ∙ taken)
 
--- whatever is after it, a line ends where the front ends
+-- a line ends where the front ends, with any octets after it
 abbrev pub IsClosed : List ℕ → Type 0
 IsClosed front = (behind : List ℕ) → lines_of (front ++ behind) ≡ lines_of front ++ lines_of behind
 
@@ -124,7 +124,7 @@ taken before after rest line e takes = elim takes.1 [
 closed_front : (front rest : List ℕ) → IsClosed front ⊎ (rest ≡ []) → 0 < length rest → IsClosed front
 closed_front front rest closed some = elim closed [ inl c ↦ c | inr none ↦ absurd (omega (arith, ap length none)) ]
 
--- whatever is read next, the text is cut at the end of the answered front
+-- the text is cut at the end of the answered front, with any octets read next
 cut_at : (text front rest : List ℕ) → text ≡ front ++ rest → IsClosed front ⊎ (rest ≡ []) → IsCut text front rest
 cut_at text front rest joined closed = record {
   joined = joined;
@@ -173,7 +173,7 @@ module _ (table : Table) (allowed left : ℕ) (text : List ℕ) (after old new :
         written = Appends-trans old new newer (replies_to table so_far.front) begun.0 so_far.written begun.3;
       }
 
-  -- a line was read and answered
+  -- a line was read, and its reply was written
   pub one_more : (later : Option (List ℕ)) (line : List ℕ) (newer : Option (List ℕ)) (fewer : ℕ) → TakesLine after line later → left ≡ fewer + 1 → Appends new newer (reply_to table line) → NotRefusedForMemory table line
       → Answered table allowed fewer text later old newer
   one_more later line newer fewer takes less wrote not_memory =
@@ -202,7 +202,7 @@ module _ (table : Table) (allowed left : ℕ) (text : List ℕ) (after old new :
       let count = so_far.count in
       rw (cut.between_lines) (simp length-append (omega arith))
 
--- a line that was cut short is at most one line
+-- a beginning of a line is part of one line
 pub all_but_one_of_whole : (table : Table) (text : List ℕ) (after old new : Option (List ℕ)) → AnswersWholeLines table text after old new → AnswersAllButOne table text after old new
 all_but_one_of_whole table text after old new whole = record {
   front = whole.front;

@@ -6,7 +6,7 @@ use Rattle.std.specs.Prelude.{slice_set, OnOk}
 use Rattle.std.specs.Result.{is_err}
 use Rattle.std.proofs.Math.Seq.{set-append_seam}
 
--- what stands where there is no refusal
+-- what holds if there is no error
 pub on_ok : {A E P : Type 0} (r : Result A E) → is_err r ≡ false → OnOk r P → P
 on_ok (Ok a) e o = o
 on_ok (Err x) e o = absurd (true≢false e)

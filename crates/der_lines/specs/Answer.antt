@@ -10,11 +10,11 @@ use Rattle.der_tlv.specs.declared.error.ErrorKind.TheVariants.{Memory}
 use Rattle.der_lines.specs.Rows.{Row, canonical}
 use Rattle.der_lines.specs.Tables.{Table}
 
--- what stands before the first space, and what stands after it
+-- the octets before the first space, and those after it
 abbrev pub parts_of : List ℕ → Option (List ℕ × List ℕ)
 parts_of line = option_map (λ end. (take end line, drop (end + 1) line)) (position (λ octet. octet == 32) line)
 
--- the octets that an even number of hex digits stand for, at least two of them, or a `-` for none
+-- the octets of an even number of hex digits, at least two, or no octets for `-`
 abbrev pub octets_of : List ℕ → Option (List ℕ)
 octets_of text =
     if length text == 0 then None
@@ -25,7 +25,7 @@ octets_of text =
 abbrev pub accepted_of : List ℕ → List ℕ
 accepted_of encoding = if length encoding == 0 then codes "ok -" else codes "ok " ++ encode_lower encoding
 
--- the text of a fault
+-- the text of an error
 abbrev pub refused_of : ErrorKind → List ℕ
 refused_of kind = codes "refused " ++ decimal (error_number kind)
 
@@ -49,7 +49,7 @@ answer_to_parts table (Some parts) = answer_to_text table parts.0 (octets_of par
 unfoldable pub answer_of : Table → List ℕ → List ℕ
 answer_of table line = answer_to_parts table (parts_of line)
 
--- what octets come to is not want of memory
+-- the result for the octets is not that memory ran out
 abbrev pub IsNotMemory : Option Row → List ℕ → Type 0
 IsNotMemory None octets = Unit {0}
 IsNotMemory (Some row) octets = canonical row octets ≢ Err Memory
@@ -62,6 +62,6 @@ abbrev pub parts_are_not_memory : Table → Option (List ℕ × List ℕ) → Ty
 parts_are_not_memory table None = Unit {0}
 parts_are_not_memory table (Some parts) = text_is_not_memory table parts.0 (octets_of parts.1)
 
--- a line is no line that would be refused for want of memory: its answer is not `refused 1`
+-- a line would not be refused because memory ran out: its answer is not `refused 1`
 abbrev pub NotRefusedForMemory : Table → List ℕ → Type 0
 NotRefusedForMemory table line = parts_are_not_memory table (parts_of line)

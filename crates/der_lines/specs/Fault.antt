@@ -1,9 +1,9 @@
--- What a fault is called.
+-- The names of `Fault`.
 use Rattle.std.specs.Prelude.{ℕ, List, codes}
 use Rattle.der_lines.specs.declared.fault.Fault.{Fault}
 use Rattle.der_lines.specs.declared.fault.Fault.TheVariants.{Input, Output, Memory}
 
--- the name of a fault, as it is printed
+-- the name of a `Fault`, as it is printed
 abbrev pub text_of : Fault → List ℕ
 text_of Input = codes "input failed"
 text_of Output = codes "output failed"

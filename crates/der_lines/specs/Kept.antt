@@ -1,4 +1,4 @@
--- What a writer whose room is kept shows.
+-- The state of a writer whose buffer is kept.
 use Rattle.std.specs.Prelude.{◌-◌, vec_len, vec_capacity}
 use Rattle.der_tlv.specs.BackState.{no_back}
 use Rattle.der_tlv.specs.Writing.{WriterState, is_memory, refuses_first_with, room_unless_failed}

@@ -1,10 +1,10 @@
--- A text as lines, and what is written for it.
+-- A text as lines, and the replies to it.
 use Rattle.std.specs.Prelude.{ℕ, ◌==◌, List, [], ◌∷◌, ◌++◌, if◌then◌else◌}
 use Rattle.std.specs.List.{flat_map}
 use Rattle.der_lines.specs.Answer.{answer_of}
 use Rattle.der_lines.specs.Tables.{Table}
 
--- the lines with an octet before the first
+-- the lines with an octet before the first line
 abbrev pub onto_first : ℕ → List (List ℕ) → List (List ℕ)
 onto_first octet [] = (octet ∷ []) ∷ []
 onto_first octet (line ∷ lines) = (octet ∷ line) ∷ lines

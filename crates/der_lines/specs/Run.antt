@@ -1,4 +1,4 @@
--- What a run has read and written when it stops.
+-- The octets that a run has read and written when it stops.
 use Rattle.std.specs.Prelude.{◌≡◌, ℕ, ◌<◌, List, ◌++◌, length, Option, Some, IfSome}
 use Rattle.std.specs.List.{All}
 use Rattle.std.specs.Io.{StopsAt}
@@ -8,12 +8,12 @@ use Rattle.der_lines.specs.Lines.{lines_of, replies_to}
 use Rattle.der_lines.specs.Source.{HasNoEnd}
 use Rattle.der_lines.specs.Tables.{Table}
 
--- the text is a front of whole lines, and then what is after it
+-- the text is a front of whole lines, and the octets after it
 pub record IsCut (text front behind : List ℕ) : Type 0 where
   pub joined : text ≡ front ++ behind
   pub between_lines : lines_of text ≡ lines_of front ++ lines_of behind
 
--- exactly the lines that were read whole were answered, none with want of memory, and what was read after them ends no line
+-- exactly the lines that were read whole were answered, none because memory ran out, and the octets read after them do not end a line
 pub record AnswersWholeLines (table : Table) (text : List ℕ) (after old new : Option (List ℕ)) : Type 0 where
   pub front : List ℕ
   pub part : List ℕ
@@ -24,7 +24,7 @@ pub record AnswersWholeLines (table : Table) (text : List ℕ) (after old new : 
   pub memory : All (NotRefusedForMemory table) (lines_of front)
   pub written : Appends old new (replies_to table front)
 
--- all lines that were read were answered but for the last, of whose reply a beginning was written
+-- all lines that were read were answered except for the last; of its reply, a beginning was written
 pub record AnswersAllButOne (table : Table) (text : List ℕ) (after old new : Option (List ℕ)) : Type 0 where
   pub front : List ℕ
   pub part : List ℕ

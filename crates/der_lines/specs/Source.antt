@@ -1,4 +1,4 @@
--- What reading a line does to the octets that are still to be read.
+-- The octets that reading a line takes from those that are left to read.
 use Rattle.std.specs.Prelude.{◌≡◌, ◌≢◌, ◌⊎◌, ℕ, ◌<◌, List, [], ◌∷◌, ◌++◌, length, All, Option, IfSome}
 use Rattle.std.specs.Io.KnownBytes.{Consumes, IsAtEnd}
 use Rattle.std.specs.declared.io.ErrorKind.{ErrorKind}
@@ -8,7 +8,7 @@ use Rattle.der_lines.specs.Failure.{HasFailed}
 abbrev pub HasNoEnd : List ℕ → Type 0
 HasNoEnd octets = All (λ octet. octet ≢ 10) octets
 
--- the line and its LF were taken, or the line was the last, has no LF and isn't empty
+-- the line and its LF were taken; or the line is the last one, has no LF and is not empty
 abbrev pub TakesLine : Option (List ℕ) → List ℕ → Option (List ℕ) → Type 0
 TakesLine before line after =
     HasNoEnd line × (Consumes before after (line ++ 10 ∷ []) ⊎ (Consumes before after line × IsAtEnd after × (0 < length line)))

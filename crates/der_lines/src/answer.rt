@@ -10,7 +10,8 @@ use crate::names::Names;
 use der_tlv::ErrorKind;
 use std::alloc::{AllocError, Global};
 
-/// Room for the octets of a line and for their encoding, which is kept from one line to the next.
+/// Buffers for the octets of a line and for their encoding, which are kept from one line to the
+/// next.
 #[derive(Drop)]
 pub struct Room {
     octets: Vec<u8>,
@@ -18,7 +19,7 @@ pub struct Room {
 }
 
 impl Room {
-    /// Room for nothing yet.
+    /// Makes empty buffers.
     pub fn new(alloc: Global) -> Room
         ensures { result.octets.items ≡ [] }
     {
@@ -28,7 +29,7 @@ impl Room {
         }
     }
 
-    /// Puts the answer to a line, and an LF, in the place of the line.
+    /// Replaces a line by the answer to it and an LF.
     #[tactic(auto, unfolding(crate::specs::Answer::answer_of))]
     pub fn answer<N: Names>(&mut self, alloc: Global, line: &mut Vec<u8>) -> Result<(), AllocError>
         ensures reply { OnOk result (line.new.items ≡ reply_to N.table line.old.items) }
@@ -48,7 +49,7 @@ impl Room {
     }
 }
 
-/// What stands before the first space, and what stands after it.
+/// Returns the octets before the first space, and those after it.
 fn parts(line: &[u8]) -> Option<(&[u8], &[u8])>
     ensures { option_map (λ p. (p.0.now, p.1.now)) result ≡ parts_of line.now }
 {
@@ -65,7 +66,7 @@ fn first_space(line: &[u8]) -> Option<usize>
     line.iter().position(|octet| *octet == b' ')
 }
 
-/// Reads the octets that hex digits stand for, or a `-` for none. Answers whether the text is such.
+/// Reads the octets of hex digits, or no octets for `-`. Returns whether the text has this form.
 fn read_octets(text: &[u8], octets: &mut Vec<u8>) -> Result<bool, AllocError>
     ensures { IfOk result (λ is_read.
         octets_of text.now ≡ (if is_read then Some octets.new.items else None)) }
@@ -107,7 +108,7 @@ fn put_accepted(encoding: &[u8], reply: &mut Vec<u8>) -> Result<(), AllocError>
     Ok(())
 }
 
-/// Fills a reply of just the length with `ok `, the digits of an encoding and an LF.
+/// Fills a reply of exactly this length with `ok `, the digits of an encoding and an LF.
 fn fill_reply(encoding: &[u8], reply: &mut [u8])
     requires { length reply.old ≡ 2 * length encoding.now + 4 }
     ensures { reply.new ≡ with_line_feed (codes "ok " ++ encode_lower encoding.now) }

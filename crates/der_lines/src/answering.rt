@@ -1,4 +1,4 @@
-//! Lines to answers.
+//! Reading lines and writing answers.
 ghost use Rattle.std.specs.Prelude.{◌≡◌, ◌⊎◌, [], Some, IfSome, OnOk, OnErr, IsErrOf};
 ghost use Rattle.std.specs.Io.KnownBytes.{Appends};
 ghost use Rattle.der_lines.specs.Failure.{ReportsFailure, HasFailed};
@@ -25,13 +25,13 @@ pub fn run<N: Names, R: BufRead, W: Write>(
     ensures ok { OnOk result (IfSome (R.remaining input.old.reader) (λ text.
         Appends (W.contents output.old.writer) (W.contents output.new.writer)
         (replies_to N.table text))) }
-    // No line is answered with want of memory (1): that ends the run.
+    // No line is answered because memory ran out (1); the run ends instead.
     ensures memory { OnOk result (IfSome (R.remaining input.old.reader) (λ text.
         All (NotRefusedForMemory N.table) (lines_of text))) }
     ensures ended { OnOk result (IfSome (R.remaining input.old.reader) (λ _.
         R.remaining input.new.reader ≡ Some [])) }
 
-    // After a fault, a beginning of that was written.
+    // After an error, a beginning of the replies was written.
     ensures beginning { OnErr result (IfSome (R.remaining input.old.reader) (λ text.
         WritesBeginning N.table text
         (W.contents output.old.writer) (W.contents output.new.writer))) }
@@ -42,7 +42,7 @@ pub fn run<N: Names, R: BufRead, W: Write>(
         AnswersWholeLines N.table text (R.remaining input.new.reader)
         (W.contents output.old.writer) (W.contents output.new.writer)) }
 
-    // Each fault has its cause, and each error with which a read or a write failed is told as it is.
+    // Each `Fault` has its cause, and the kind of the error of a failed read or write is kept.
     ensures input { IsErrOf result Fault.Input → HasFailed input.new.failure
         ⊎ HasTooManyLines (R.remaining input.old.reader) input.old.lines_left input.new.lines_left }
     ensures reported_read { ReportsFailure Fault.Input input.old.failure input.new.failure result }

@@ -1,4 +1,4 @@
-//! The canonical encoding of the value that octets encode, in room that is kept.
+//! The canonical encoding of the value that octets encode, in a buffer that is kept.
 
 ghost use Rattle.der_tlv.specs.declared.tag.Tag.TheVariants.{Sequence, Set};
 ghost use Rattle.der_nest.specs.Sets.{parse_set};
@@ -13,13 +13,14 @@ use der_tlv::{Error, SliceReader};
 use std::alloc::Global;
 use std::marker::PhantomData;
 
-/// Reads a value from octets that are its encoding and nothing else, and puts its encoding in the
-/// place of what was written.
+/// Reads a value from all of the octets, and replaces the octets of `encoding` by its canonical
+/// encoding.
 ///
 /// # Errors
-/// The first fault of the octets; `ErrorKind::Memory` (1) where memory runs out: of a type that takes
-/// none to be read, only for octets that encode a value; of one that takes it once every fault of the
-/// value is found, only for octets that begin with the encoding of a value.
+/// The first error in the octets; `ErrorKind::Memory` (1) if memory runs out: for a type that
+/// takes no memory to be read, only for octets that encode a value; for one that takes memory
+/// after every error of the value is found, only for octets that begin with the encoding of a
+/// value.
 pub fn put_canonical<'a, T: FromDer<'a> + Encode>(
     alloc: Global,
     octets: &'a [u8],
@@ -32,10 +33,10 @@ pub fn put_canonical<'a, T: FromDer<'a> + Encode>(
     value.encode(encoding)
 }
 
-/// The same of a set of any number of items.
+/// Does the work of `put_canonical` for a set of any number of items.
 ///
 /// # Errors
-/// The first fault of the octets; `ErrorKind::Memory` (1) where memory runs out.
+/// The first error in the octets; `ErrorKind::Memory` (1) if memory runs out.
 pub fn put_canonical_set<'a, T: Decode<'a, SliceReader<'a>> + Encode + DerOrd + Tagged>(
     alloc: Global,
     octets: &'a [u8],
@@ -47,12 +48,12 @@ pub fn put_canonical_set<'a, T: Decode<'a, SliceReader<'a>> + Encode + DerOrd + 
     put_canonical::<SetOfVec<T>>(alloc, octets, encoding)
 }
 
-/// The same of a SEQUENCE of a list of fields, of which the type is told.
+/// Does the work of `put_canonical` for a SEQUENCE of a list of fields; `_sequence` has its type.
 ///
-/// It is proved once for every list, so that a call at a long list is checked sooner.
+/// It is proved once for every list, so that a call with a long list is checked faster.
 ///
 /// # Errors
-/// The first fault of the octets; `ErrorKind::Memory` (1) where memory runs out.
+/// The first error in the octets; `ErrorKind::Memory` (1) if memory runs out.
 pub fn put_canonical_sequence<'a, F: DecodeFields<'a, SliceReader<'a>> + EncodeFields>(
     alloc: Global,
     octets: &'a [u8],

@@ -1,18 +1,18 @@
-//! Why a run stops.
+//! The reason why a run stops.
 ghost use Rattle.std.specs.Prelude.{◌≡◌, Some};
 ghost use Rattle.der_lines.specs.declared.fault.Fault.TheVariants.{Memory};
 
 use std::alloc::AllocError;
 use std::fmt;
 
-/// Why a run stops before the end of its input.
+/// The reason why a run stops before the end of its input.
 #[derive(Clone, Copy, Debug, PartialEq, Eq)]
 pub enum Fault {
     /// A read failed, or there are more lines than may be read.
     Input,
     /// A write failed, or took no octet.
     Output,
-    /// Memory was refused.
+    /// Memory ran out.
     Memory,
 }
 

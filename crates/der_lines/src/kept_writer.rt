@@ -1,24 +1,24 @@
-//! A writer whose room is kept.
+//! A writer whose buffer is kept.
 ghost use Rattle.std.specs.Prelude.{◌≡◌, [], false};
 ghost use Rattle.der_tlv.specs.Writing.{WriterState, Writes};
 
 use der_tlv::{Error, ErrorKind, Writer};
 use std::alloc::Global;
 
-/// A writer into a vector, whose room is kept where it is cleared.
+/// A writer into a vector, which keeps its buffer when it is cleared.
 ///
-/// A growth that is refused (1) leaves the octets as they were; from then on each write is refused
+/// If the vector cannot grow (1), the octets are unchanged, and each later write returns
 /// `ErrorKind::Failed` (17).
 #[derive(Drop)]
 pub struct KeptWriter {
     /// The octets that were written.
     pub octets: Vec<u8>,
-    /// Whether a write was refused.
+    /// Whether a write failed.
     pub failed: bool,
 }
 
 impl KeptWriter {
-    /// A writer that holds nothing. It takes no memory yet.
+    /// Makes an empty writer, which takes no memory yet.
     pub fn new(alloc: Global) -> KeptWriter
         ensures octets { result.octets.items ≡ [] }
         ensures failed { result.failed ≡ false }
@@ -29,7 +29,7 @@ impl KeptWriter {
         }
     }
 
-    /// Forgets what was written.
+    /// Removes the octets that were written.
     pub fn clear(&mut self)
         ensures octets { self.new.octets.items ≡ [] }
         ensures failed { self.new.failed ≡ false }

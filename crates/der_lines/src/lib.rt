@@ -1,8 +1,9 @@
-//! Programs that answer lines: each a type's name, a space and the hex digits of octets.
+//! Programs that answer lines: each line is the name of a type, a space and the hex digits of
+//! octets.
 //!
 //! The answer to a line is `ok` and the canonical encoding of the value that the octets encode,
-//! `refused` and the number of their first fault, or `bad line`. A program says by `Names` which types
-//! its lines name; `run` answers each line of its input, before it reads the next.
+//! `refused` and the number of their first error, or `bad line`. A program implements `Names` for
+//! the types that its lines name; `run` answers each line of its input before it reads the next.
 //!
 //! With `TypeNames` of `derview_names` as its table:
 //!

@@ -6,7 +6,7 @@ ghost use Rattle.der_lines.specs.Source.{TakesLine, TakesPart};
 
 use std::io::{self, BufRead, ErrorKind};
 
-/// Whether there are octets to read.
+/// Returns whether there are octets to read.
 pub fn has_more<R: BufRead>(reader: &mut R) -> io::Result<bool>
     ensures kept { Keeps (R.remaining reader.old) (R.remaining reader.new) }
     ensures none { result ≡ Ok false → IsAtEnd (R.remaining reader.old) }
@@ -22,8 +22,8 @@ pub fn has_more<R: BufRead>(reader: &mut R) -> io::Result<bool>
     Err(io::Error::from(ErrorKind::TimedOut))
 }
 
-/// Puts the next line, without its LF, in the place of what `line` holds. Answers whether there
-/// was one. A read that a signal interrupts is made again.
+/// Replaces the octets of `line` by the next line, without its LF. Returns whether there was one.
+/// A read that a signal interrupts is repeated.
 pub fn read_line<R: BufRead>(reader: &mut R, line: &mut Vec<u8>) -> io::Result<bool>
     ensures line { result ≡ Ok true →
         TakesLine (R.remaining reader.old) line.new.items (R.remaining reader.new) }
@@ -44,18 +44,18 @@ pub fn read_line<R: BufRead>(reader: &mut R, line: &mut Vec<u8>) -> io::Result<b
     Err(io::Error::from(ErrorKind::TimedOut))
 }
 
-/// What a step of reading a line met.
+/// The result of a step of reading a line.
 #[derive(Clone, Copy, Debug, PartialEq, Eq)]
 enum Piece {
     /// The end of the input.
     End,
     /// Octets of the line, and no LF yet.
     Open,
-    /// The line's last octets, and its LF.
+    /// The last octets of the line, and its LF.
     Closed,
 }
 
-/// Adds octets of a line that the reader has at hand, up to an LF, which it takes too.
+/// Adds octets of a line that the reader has buffered, up to an LF, which is taken too.
 fn append_piece<R: BufRead>(reader: &mut R, line: &mut Vec<u8>) -> io::Result<Piece>
     ensures piece { TakesPiece (R.remaining reader.old) (R.remaining reader.new)
         line.old.items line.new.items result }
@@ -75,7 +75,7 @@ fn append_piece<R: BufRead>(reader: &mut R, line: &mut Vec<u8>) -> io::Result<Pi
     Ok(Piece::Closed)
 }
 
-/// The place of the first LF, or the length where there is none.
+/// Returns the offset of the first LF, or the length if there is none.
 fn line_end(octets: &[u8]) -> usize
     ensures bound { result ≤ length octets.now }
     ensures before { All (λ octet. octet ≢ 10) (take result octets.now) }
@@ -90,8 +90,8 @@ fn line_end(octets: &[u8]) -> usize
     octets.len()
 }
 
-/// How many octets the blocks have that stand before the first LF. It tells blocks since that takes
-/// less time than to tell each octet.
+/// Returns the number of octets in the blocks before the first LF. It checks whole blocks because
+/// that takes less time than to check each octet.
 fn open_blocks(octets: &[u8]) -> usize
     ensures bound { result ≤ length octets.now }
     ensures before { All (λ octet. octet ≢ 10) (take result octets.now) }
@@ -103,10 +103,10 @@ fn open_blocks(octets: &[u8]) -> usize
     end
 }
 
-/// How many octets a block has.
+/// The number of octets in a block.
 const BLOCK: usize = 16;
 
-/// Whether no octet of a block is an LF.
+/// Returns whether no octet of a block is an LF.
 #[inline(always)]
 fn is_open(block: &[u8]) -> bool
     requires { length block.now ≡ 16 }

@@ -9,17 +9,18 @@ use std::alloc::Global;
 
 /// The types that lines name.
 ///
-/// `choose!` writes the call for a table of names and types.
+/// `choose!` writes the method for a table of names and types.
 pub trait Names {
-    /// By a type's name what octets come to as that type, and when reading it takes memory.
+    /// By the name of a type, how octets are parsed as that type, and when reading it takes
+    /// memory.
     ghost table: { Table };
 
-    /// Puts the canonical encoding of the value that the octets encode, as the type of that name, if
-    /// there is such a type, in the place of what was written.
+    /// Replaces the octets of `encoding` by the canonical encoding of the value that the octets
+    /// encode as the type of that name, if there is such a type.
     ///
     /// # Errors
-    /// The first fault of the octets; `ErrorKind::Memory` (1) where memory runs out: of a type that
-    /// takes none to be read, only for octets that encode a value.
+    /// The first error in the octets; `ErrorKind::Memory` (1) if memory runs out: for a type that
+    /// takes no memory to be read, only for octets that encode a value.
     fn put_canonical_of_name(
         alloc: Global,
         name: &[u8],
@@ -29,15 +30,15 @@ pub trait Names {
         ensures { AnswersAs (table name.now) octets.now encoding.new.octets.items result };
 }
 
-/// Whether a name is this text.
+/// Returns whether a name is this text.
 pub fn is_name(name: &[u8], text: &str) -> bool
     ensures { result ≡ bytes_eq name.now text.now }
 {
     name == text.as_bytes()
 }
 
-/// Takes the type that stands at the name, and puts the canonical encoding of what the octets encode
-/// as it.
+/// Finds the type with the name, and writes the canonical encoding of the value of that type that
+/// the octets encode.
 #[macro_export]
 macro_rules! choose {
     ($alloc:expr, $name:expr, $octets:expr, $encoding:expr; $($text:literal => $type:ty,)*) => {
@@ -48,7 +49,7 @@ macro_rules! choose {
     };
 }
 
-/// The same of SEQUENCEs of lists of fields.
+/// Does the work of `choose!` for SEQUENCEs of lists of fields.
 #[macro_export]
 macro_rules! choose_sequence {
     ($alloc:expr, $name:expr, $octets:expr, $encoding:expr; $($text:literal => $type:ty,)*) => {

@@ -1,4 +1,4 @@
-//! Where answers go.
+//! The sink of the answers.
 ghost use Rattle.std.specs.Prelude.{◌≡◌, ◌≢◌, None, Some, IfOk, OnOk, OnErr, IsErrOf};
 ghost use Rattle.std.specs.IoError.{error_kind};
 ghost use Rattle.std.specs.Io.KnownBytes.{Appends, Keeps};
@@ -11,14 +11,14 @@ use std::io::{self, ErrorKind, Write};
 /// Writes octets to a writer.
 #[derive(Drop)]
 pub struct OctetWriter<W> {
-    /// What is written to.
+    /// The writer.
     pub writer: W,
-    /// Of the last write that failed, or took no octet, the kind of its error.
+    /// The kind of the error of the last write that failed or took no octet.
     pub failure: Option<ErrorKind>,
 }
 
 impl<W: Write> OctetWriter<W> {
-    /// A writer of which no write has failed.
+    /// Makes an `OctetWriter` without a failed write.
     pub fn new(writer: W) -> OctetWriter<W>
         ensures writer { result.writer ≡ writer }
         ensures failure { result.failure ≡ None }
@@ -29,7 +29,7 @@ impl<W: Write> OctetWriter<W> {
         }
     }
 
-    /// Writes all of the octets, or a beginning of them.
+    /// Writes all of the octets; if a write fails, a beginning of them.
     pub fn put(&mut self, octets: &[u8]) -> Result<(), Fault>
         ensures ok { OnOk result
             (Appends (W.contents self.old.writer) (W.contents self.new.writer) octets.now) }
@@ -45,7 +45,7 @@ impl<W: Write> OctetWriter<W> {
         }
     }
 
-    /// Notes the error with which a write failed, and answers its fault.
+    /// Records the error of a failed write, and returns its `Fault`.
     fn fault(&mut self, error: &io::Error) -> Fault
         ensures kept { self.new.writer ≡ self.old.writer }
         ensures failure { self.new.failure ≡ Some (error_kind error.now) }
@@ -77,7 +77,8 @@ fn write_all<W: Write>(writer: &mut W, octets: &[u8]) -> io::Result<()>
     Err(io::Error::from(ErrorKind::TimedOut))
 }
 
-/// Writes a beginning of the octets, and answers the rest: all of them where a signal interrupts it.
+/// Writes a beginning of the octets, and returns the rest: all of them if a signal interrupts the
+/// write.
 fn write_some<'a, W: Write>(writer: &mut W, octets: &'a [u8]) -> io::Result<&'a [u8]>
     ensures ok { IfOk result (λ rest.
         AppendsUpTo (W.contents writer.old) (W.contents writer.new) octets.now rest.now) }

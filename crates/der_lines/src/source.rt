@@ -1,4 +1,4 @@
-//! Where lines come from.
+//! The source of the lines.
 ghost use Rattle.std.specs.Prelude.{◌≡◌, ◌≢◌, ◌+◌, true, false, None, Some, IfOk, OnOk, OnErr, IsErrOf};
 ghost use Rattle.std.specs.IoError.{error_kind};
 ghost use Rattle.std.specs.Io.KnownBytes.{IsAtEnd, Keeps};
@@ -9,19 +9,19 @@ use crate::fault::Fault;
 use crate::lines::{has_more, read_line};
 use std::io::{self, BufRead, ErrorKind};
 
-/// The lines of a reader. No more than a set number of them is read.
+/// The lines of a reader. At most a given number of lines is read.
 #[derive(Drop)]
 pub struct LineReader<R> {
-    /// What is read from.
+    /// The reader.
     pub reader: R,
-    /// How many more lines may be read.
+    /// The number of lines that may still be read.
     pub lines_left: u64,
-    /// Of the last read that failed, the kind of its error.
+    /// The kind of the error of the last read that failed.
     pub failure: Option<ErrorKind>,
 }
 
 impl<R: BufRead> LineReader<R> {
-    /// The lines of a reader, of which no read has failed.
+    /// Makes a `LineReader` without a failed read.
     pub fn new(reader: R, lines_left: u64) -> LineReader<R>
         ensures reader { result.reader ≡ reader }
         ensures lines_left { result.lines_left ≡ lines_left }
@@ -34,8 +34,8 @@ impl<R: BufRead> LineReader<R> {
         }
     }
 
-    /// Puts the next line, without its LF, in the place of what `line` holds. Answers whether there
-    /// was one.
+    /// Replaces the octets of `line` by the next line, without its LF. Returns whether there was
+    /// one.
     pub fn next_line(&mut self, line: &mut Vec<u8>) -> Result<bool, Fault>
         ensures line { result ≡ Ok true →
             TakesLine (R.remaining self.old.reader) line.new.items (R.remaining self.new.reader) }
@@ -65,7 +65,7 @@ impl<R: BufRead> LineReader<R> {
         }
     }
 
-    /// Notes the error with which a read failed, and answers its fault.
+    /// Records the error of a failed read, and returns its `Fault`.
     fn fault(&mut self, error: &io::Error) -> Fault
         ensures reader { self.new.reader ≡ self.old.reader }
         ensures lines_left { self.new.lines_left ≡ self.old.lines_left }
@@ -81,7 +81,7 @@ impl<R: BufRead> LineReader<R> {
         }
     }
 
-    /// Answers that there is no line, or refuses the lines that there still are.
+    /// Returns that there is no line, or an error if there are more lines.
     fn check_end(&mut self) -> Result<bool, Fault>
         ensures none { IfOk result (λ is_line. is_line ≡ false) }
         ensures end { OnOk result (IsAtEnd (R.remaining self.old.reader)) }

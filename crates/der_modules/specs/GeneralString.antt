@@ -1,4 +1,4 @@
--- What a GeneralString of a module shows.
+-- The octets of a GeneralString of a module.
 use Rattle.std.specs.Prelude.{ℕ, List}
 use Rattle.der_modules.specs.declared.general_string.GeneralStringOctets.{GeneralStringOctets}
 

@@ -1,4 +1,4 @@
--- The laws of a type of one's own, from those of what it holds, one by one: a struct or an enum with no bounds names each.
+-- The laws of a type that a module defines, each from the laws of its members: a struct or an enum with no bounds names each law.
 use Rattle.std.specs.Option.{option_eq}
 use Rattle.std.proofs.Common.{◌≡◌, ℕ, List, Bool, true, Option, Some, refl, sym, ap, ◌∙◌, subst, IsTrue, ◌↔◌}
 use Rattle.std.proofs.lemmas.Bool.{and_from}
@@ -22,18 +22,18 @@ use Rattle.der_fields.specs.FieldsFormat.{FieldsFormat}
 use Rattle.der_fields.specs.FieldSteps.{both, equal_fields, ListCopies, copies_step, rest_copies}
 use Rattle.der_fields.specs.ListMakers.{end_list, field_list, part_of}
 
--- comparable values are equal exactly where their octets are
+-- comparable values are equal if and only if their octets are
 abbrev pub Equal : {T : Type 0} → (T → T → Type 0) → (T → T → Bool) → (T → List ℕ) → Type 0
 Equal {T} comparable eq octets = (v w : T) → comparable v w → IsTrue (eq v w) ↔ (octets v ≡ octets w)
 
--- a copy is as the value, and equal to it
+-- a copy has the octets of the value, and is equal to it
 pub record Copies {T : Type 0} (is_copy : T → T → Type 0) (eq : T → T → Bool) (octets : T → List ℕ) (comparable : T → T → Type 0) (re_reads : T → Bool) : Type 0 where
   pub octets_are : (v w : T) → is_copy v w → octets w ≡ octets v
   pub comparable_are : (v w x : T) → is_copy v w → comparable v x → comparable w x
   pub re_reads_are : (v w : T) → is_copy v w → re_reads w ≡ re_reads v
   pub equal_are : (v w : T) → is_copy v w → IsTrue (eq v w)
 
--- the same as one member of a trait, which says what it speaks of
+-- the laws of copies as one member of a trait, with the terms that they are about
 pub record CopiesOf (T : Type 0) : Type 1 where
   pub is_copy : T → T → Type 0
   pub eq : T → T → Bool
@@ -68,7 +68,7 @@ one_tag_equality t contents comparable eq equal = encoding_eq_tagged t contents 
 pub one_tag_copies : {T : Type 0} {is_copy : T → T → Type 0} {eq : T → T → Bool} {contents : T → List ℕ} {comparable : T → T → Type 0} {re_reads : T → Bool} (t : Tag) → Copies is_copy eq contents comparable re_reads → Copies is_copy eq (λ v. tlv t (contents v)) comparable re_reads
 one_tag_copies t c = record { octets_are = λ v w e. ap (tlv t) (c.octets_are v w e); comparable_are = c.comparable_are; re_reads_are = c.re_reads_are; equal_are = c.equal_are }
 
--- a type that tells its tags itself
+-- a type whose values determine their tags
 pub own_tags : {T : Type 0} (tags : Tag → Bool) (first_tag_of : T → Option Tag) (encoding : T → List ℕ) (tag_of : T → Tag) (contents : T → List ℕ) → ((v : T) → encoding v ≡ tlv (tag_of v) (contents v)) → ((v : T) → tags (tag_of v) ≡ true) → ((v : T) → first_tag_of v ≡ Some (tag_of v)) → HasTag tags first_tag_of encoding tag_of contents
 own_tags tags first_tag_of encoding tag_of contents encoding_is own_tag first_tag_is = record { encoding_is = encoding_is; own_tag = own_tag; first_tag_is = first_tag_is }
 
@@ -81,7 +81,7 @@ same_copies octets comparable re_reads eq equal = record {
   equal_are = λ v w e. subst (λ u. IsTrue (eq v u)) (sym e) (equal v);
 }
 
--- a struct that is seen as what it holds
+-- a struct that is viewed as the value that it holds
 pub held_copies : {S T : Type 0} {is_copy : T → T → Type 0} {eq : T → T → Bool} {octets : T → List ℕ} {comparable : T → T → Type 0} {re_reads : T → Bool} (view : S → T) → Copies is_copy eq octets comparable re_reads → Copies (λ v w. is_copy (view v) (view w)) (λ v w. eq (view v) (view w)) (λ v. octets (view v)) (λ v w. comparable (view v) (view w)) (λ v. re_reads (view v))
 held_copies view c = record {
   octets_are = λ v w. c.octets_are (view v) (view w);
@@ -90,7 +90,7 @@ held_copies view c = record {
   equal_are = λ v w. c.equal_are (view v) (view w);
 }
 
--- ---- fields: one that is there, one that may be absent, one that has a default
+-- ---- fields: one that is always present, one that may be absent, one with a default
 
 module _ {T : Type 0} (F : form.Ghosts T) {is_copy : T → T → Type 0} {eq : T → T → Bool} (c : Copies is_copy eq F.encoding F.comparable F.re_reads) where
   pub optional_copies : Copies (is_copy_option is_copy) (option_eq eq) (encoding_option F.encoding) (comparable_option F.comparable) (test_option F.re_reads)
@@ -109,9 +109,9 @@ module _ {T : Type 0} (F : form.Ghosts T) {is_copy : T → T → Type 0} {eq : T
     equal_are = λ v w. c.equal_are (value_of v) (value_of w);
   }
 
--- ---- a list of fields, from its last on
+-- ---- a list of fields, from the last
 
--- a copy of fields is as they are, and equal to them
+-- a copy of fields has the octets of the fields, and is equal to them
 pub record FieldCopies {T : Type 0} (G : FieldsFormat T) (are_copies : T → T → Type 0) (eq : T → T → Bool) : Type 0 where
   pub list : ListCopies G are_copies
   pub equal : (v w : T) → are_copies v w → IsTrue (eq v w)
@@ -126,7 +126,7 @@ module _ {T U : Type 0} (F : form.Ghosts T) (first : HasFirst F.tags F.first_tag
     equal = λ v w e. and_from (eq v.first w.first) (eq' v.rest w.rest) (c.equal_are v.first w.first e.0) (rest.equal v.rest w.rest e.1);
   }
 
--- fields after those that a step tells
+-- the fields after those that a list reads in one step
 module _ {S T : Type 0} (view : S → T) {G : FieldsFormat T} where
   pub part_copies : {are_copies : T → T → Type 0} {eq : T → T → Bool} → FieldCopies G are_copies eq → FieldCopies (part_of view G) (λ v w. are_copies (view v) (view w)) (λ v w. eq (view v) (view w))
   part_copies c = record {
@@ -158,7 +158,7 @@ module _ {A B : Type 0} (F : form.Ghosts A) (G : form.Ghosts B) {tag_of : A → 
       equal_are = copy_is_equal_one is_copy is_copy' eq_one (λ v x e. subst IsTrue (sym (same v x)) (c.equal_are v x e)) (λ w y e. subst IsTrue (sym (same' w y)) (d.equal_are w y e));
     }
 
--- an enum that is seen as the tree of its alternatives
+-- an enum that is viewed as the tree of its alternatives
 module _ {S T : Type 0} (view : S → T) (own : S → S → Bool) (eq : T → T → Bool) (same : (v w : S) → own v w ≡ eq (view v) (view w)) where
   pub seen_copies : {is_copy : T → T → Type 0} {octets : T → List ℕ} {comparable : T → T → Type 0} {re_reads : T → Bool} → Copies is_copy eq octets comparable re_reads → Copies (λ v w. is_copy (view v) (view w)) own (λ v. octets (view v)) (λ v w. comparable (view v) (view w)) (λ v. re_reads (view v))
   seen_copies c = record {

@@ -1,4 +1,4 @@
--- Equality of values by their octets, as one member of a trait: a struct over a list of fields has a line a field.
+-- Equality of values by their octets, as one member of a trait: a struct over a list of fields has one line for each field.
 use Rattle.std.specs.Option.{option_eq}
 use Rattle.std.proofs.Common.{◌≡◌, ℕ, List, [], ◌++◌, Bool, true, false, ◌||◌, Option, Some, None, refl, sym, subst, IsTrue, ◌↔◌}
 use Rattle.der_tlv.specs.declared.tag.Tag.{Tag}
@@ -26,7 +26,7 @@ use Rattle.der_fields.specs.FieldLists.{Distinguished, first_tag_or_next}
 use Rattle.der_fields.specs.FieldSteps.{equal_fields}
 use Rattle.der_modules.specs.MemberLaws.{Equal, HasFirst, HasTag, one_tag, one_tag_equality}
 
--- a type with one tag: comparable values are equal exactly where their contents octets are
+-- a type with one tag: comparable values are equal if and only if their contents octets are
 pub record MemberOf (T : Type 0) : Type 1 where
   pub tag : Tag
   pub contents : T → List ℕ
@@ -34,7 +34,7 @@ pub record MemberOf (T : Type 0) : Type 1 where
   pub eq : T → T → Bool
   pub equal : Equal comparable eq contents
 
--- a type whose values tell their tags: the same of whole encodings
+-- a type whose values determine their tags: comparable values are equal if and only if their encodings are
 pub record ChoiceOf (T : Type 0) : Type 1 where
   pub tags : Tag → Bool
   pub first_tag_of : T → Option Tag
@@ -46,7 +46,7 @@ pub record ChoiceOf (T : Type 0) : Type 1 where
   pub has_tag : HasTag tags first_tag_of encoding tag_of contents
   pub equal : Equal comparable eq encoding
 
--- a field: its encoding may be of no octets
+-- a field, which may have no octets
 pub record PartOf (T : Type 0) : Type 1 where
   pub tags : Tag → Bool
   pub first_tag_of : T → Option Tag
@@ -71,7 +71,7 @@ pub record MembersOf (T : Type 0) : Type 1 where
 abbrev pub value_member : {T : Type 0} → Tag → (V : ContentsFormat T) → (eq : T → T → Bool) → Equal V.comparable eq V.contents → MemberOf T
 value_member t V eq equal = record { tag = t; contents = V.contents; comparable = V.comparable; eq = eq; equal = equal }
 
--- a struct that is seen as a list of fields
+-- a struct that is viewed as a list of fields
 abbrev pub struct_member : {S T : Type 0} → Tag → (S → T) → MembersOf T → MemberOf S
 struct_member t view G = record {
   tag = t;
@@ -81,7 +81,7 @@ struct_member t view G = record {
   equal = λ v w. G.equal (view v) (view w);
 }
 
--- a struct that is seen as the value that it holds, after a tag of its own
+-- a struct with its own tag that is viewed as the value that it holds
 abbrev pub seen_member : {S T : Type 0} → Tag → (S → T) → MemberOf T → MemberOf S
 seen_member t view m = record {
   tag = t;
@@ -91,7 +91,7 @@ seen_member t view m = record {
   equal = λ v w. m.equal (view v) (view w);
 }
 
--- another tag in place of its own
+-- a value with another tag in place of its own
 abbrev pub implicit_member : {T : Type 0} {class number : ℕ} → Tag → MemberOf T → MemberOf (ImplicitIn T class number)
 implicit_member t m = seen_member t (λ v. v.value) m
 
@@ -110,7 +110,7 @@ whole m = record {
   equal = one_tag_equality m.tag m.contents m.comparable m.eq m.equal;
 }
 
--- a type of the library whose values tell their tags
+-- a type of the library whose values determine their tags
 abbrev pub value_choice : {T : Type 0} (F : form.Ghosts T) {tag_of : T → Tag} {contents : T → List ℕ} (eq : T → T → Bool) → HasTag F.tags F.first_tag_of F.encoding tag_of contents → Equal F.comparable eq F.encoding → ChoiceOf T
 value_choice F {tag_of} {contents} eq has_tag equal = record {
   tags = F.tags;
@@ -167,7 +167,7 @@ either F G = record {
   equal = equal_one F G;
 }
 
--- an enum that is seen as the tree of its alternatives
+-- an enum that is viewed as the tree of its alternatives
 abbrev pub seen_choice : {S T : Type 0} (view : S → T) (own : S → S → Bool) (F : ChoiceOf T) → ((v w : S) → own v w ≡ F.eq (view v) (view w)) → ChoiceOf S
 seen_choice view own F same = record {
   tags = F.tags;
@@ -212,7 +212,7 @@ module _ {T : Type 0} (F : ChoiceOf T) where
     pub equal_of_default : Equal (λ v w. F.comparable (value_of v) (value_of w)) (λ v w. F.eq (value_of v) (value_of w)) (λ v. octets_unless (is_default default (F.encoding (value_of v))) (F.encoding (value_of v)))
     equal_of_default v w = encoding_eq_default F.tag_of F.contents F.encoding F.has_tag.encoding_is F.comparable F.eq F.equal default (value_of v) (value_of w)
 
--- one that is there, one that may be absent, one that has a default
+-- a field that is always present, one that may be absent, and one with a default
 abbrev pub there : {T : Type 0} → ChoiceOf T → PartOf T
 there F = record { tags = F.tags; first_tag_of = F.first_tag_of; encoding = F.encoding; comparable = F.comparable; eq = F.eq; first = first_of F; equal = F.equal }
 
@@ -238,7 +238,7 @@ unless default F = record {
   equal = equal_of_default F (λ v. v.value) default;
 }
 
--- ---- a list of fields, from its last on
+-- ---- a list of fields, from the last
 
 abbrev pub no_fields : MembersOf End
 no_fields = record {
@@ -269,7 +269,7 @@ optional_field m G = and_then (perhaps (whole m)) G
 abbrev pub default_field : {T D U : Type 0} → List ℕ → MemberOf T → MembersOf U → MembersOf (Field (WithDefault T D) U)
 default_field octets m G = and_then (unless octets (whole m)) G
 
--- the same of a CHOICE
+-- a field that is a CHOICE
 abbrev pub choice_field : {T U : Type 0} → ChoiceOf T → MembersOf U → MembersOf (Field T U)
 choice_field F G = and_then (there F) G
 

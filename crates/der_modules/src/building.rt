@@ -1,7 +1,7 @@
-//! How the list of the fields of a SEQUENCE is built, and what stands in it is seen.
+//! Macros that build the list of the fields of a SEQUENCE, and values in it.
 
-/// The list of these fields: `field_list![a, b]`, and `field_list![a, b; rest]` before those of a longer
-/// list.
+/// Builds the list of these fields: `field_list![a, b]`, or `field_list![a, b; rest]` in front of
+/// the fields of a longer list.
 #[macro_export]
 macro_rules! field_list {
     ($first:expr $(,)?) => {
@@ -17,7 +17,7 @@ macro_rules! field_list {
     };
 }
 
-/// A value after an explicit tag: `tagged!(Explicit, value)`.
+/// Builds a value after an explicit tag: `tagged!(Explicit, value)`.
 #[macro_export]
 macro_rules! tagged {
     ($tagging:ident, $value:expr) => {
@@ -25,7 +25,7 @@ macro_rules! tagged {
     };
 }
 
-/// What is made of a value, where it is there: `if_present!(value in field => value.fields.first)`.
+/// Maps a value if it is present: `if_present!(value in field => value.fields.first)`.
 #[macro_export]
 macro_rules! if_present {
     ($value:ident in $given:expr => $made:expr) => {

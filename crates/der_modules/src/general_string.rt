@@ -1,7 +1,8 @@
-//! GeneralString of a module (X.690 8.23): the octets, made from octets or read, in an order.
+//! GeneralString of a module (X.690 8.23): its octets, which are given or read, and have an
+//! order.
 //!
-//! The tag is 1B. The contents octets are kept as they stand: which characters they are depends on
-//! escape sequences, and is not looked at. `hi` is encoded as 1B 02 68 69.
+//! The tag is 1B. The contents octets are kept unchanged: which characters they are depends on
+//! escape sequences, and is not checked. `hi` is encoded as 1B 02 68 69.
 
 ghost use Rattle.std.specs.Prelude.{◌≡◌, ◌^◌, ◌<◌, length, refl, false};
 ghost use Rattle.std.proofs.Common.{Ok};
@@ -17,8 +18,8 @@ use der_elem::{
 use der_tlv::{BackWriter, Error, Header, Length, Reader, Source, Tag, Writer};
 use std::alloc::Global;
 
-/// The octets of a GeneralString, borrowed: at most 4294967295 of them. Their order is the
-/// lexicographic one.
+/// The octets of a GeneralString, borrowed: at most 4294967295 octets. Their order is
+/// lexicographic.
 #[derive(Clone, Copy, Debug, PartialEq, Eq, PartialOrd, Ord)]
 pub struct GeneralStringOctets<'a> {
     octets: &'a [u8],
@@ -28,7 +29,7 @@ pub struct GeneralStringOctets<'a> {
 impl<'a> GeneralStringOctets<'a> {
     ghost use Rattle.der_modules.specs.GeneralString.{octets_of};
 
-    /// A string of these octets.
+    /// Makes a string of these octets.
     ///
     /// # Errors
     /// `ErrorKind::Length` (7) for more than 4294967295 octets.
@@ -41,7 +42,7 @@ impl<'a> GeneralStringOctets<'a> {
         }
     }
 
-    /// The octets.
+    /// Returns the octets.
     pub fn as_bytes(self) -> &'a [u8]
         ensures { result.now ≡ octets_of self.entry }
     {

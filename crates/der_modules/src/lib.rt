@@ -1,6 +1,7 @@
-//! What the types of a module of ASN.1 stand on that `tools/asn1` writes: the words of ASN.1, in
-//! which its grammar is written (`specs/Asn1.antt`), equality of a type of one's own, from that of what
-//! it holds (`specs/Members.antt`), and the laws of its copies (`specs/MemberLaws.antt`).
+//! Definitions for the types of an ASN.1 module that `tools/asn1` writes: the words of ASN.1, in
+//! which its grammar is written (`specs/Asn1.antt`), the equality of a type that a module
+//! defines, from that of its members (`specs/Members.antt`), and the laws of its copies
+//! (`specs/MemberLaws.antt`).
 #![tactic(auto)]
 
 mod building;
@@ -15,13 +16,13 @@ pub use der_fields::{End, Field};
 pub use general_string::GeneralStringOctets;
 pub use member::{Choosing, Member};
 
-/// The laws of a type's copies as one member, which its impls of `DuplicateValue` or of `Duplicate`
-/// cite.
+/// The laws of the copies of a type as one member, which its impls of `DuplicateValue` or of
+/// `Duplicate` cite.
 pub trait CopyLaws: Sized {
     ghost copies: { CopiesOf Self };
 }
 
-/// A copy of a value that is copied, and takes no memory.
+/// Returns a copy of a value that is `Copy`, and takes no memory.
 pub fn copy_of<T: Copy>(value: &T) -> T
     ensures { result ≡ value.now }
 {

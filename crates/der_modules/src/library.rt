@@ -1,4 +1,4 @@
-//! Equality by octets of the library's types of values with no parts.
+//! Equality by octets of the types of the library whose values have no parts.
 
 ghost use Rattle.std.specs.Prelude.{string_bytes, take};
 ghost use Rattle.std.specs.Cmp.Lexicographic.{bytes_decides};

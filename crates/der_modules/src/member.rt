@@ -1,5 +1,5 @@
-//! Equality of values by their octets, as data of a type: so a type of one's own has a line for each of
-//! its fields, and cites no law of theirs.
+//! Equality of values by their octets, as data of a type: so a type that a module defines has one
+//! line for each of its fields, and cites none of their laws.
 
 ghost use Rattle.der_modules.specs.Members.{ChoiceOf, MemberOf, either, explicit_member, implicit_member, value_member, whole};
 ghost use Rattle.der_numbers.specs.EnumeratedLaws.{numbers_decide};
@@ -12,12 +12,14 @@ use der_fields::{
 };
 use der_numbers::{Enumerated, Enumeration};
 
-/// Equality of a type with one tag: two values are equal exactly if their contents octets are.
+/// The equality of a type with one tag: two values are equal if and only if their contents octets
+/// are.
 pub trait Member: Sized {
     ghost member: { MemberOf Self };
 }
 
-/// Equality of a type whose values tell their tags: two values are equal exactly if their encodings are.
+/// The equality of a type whose values determine their tags: two values are equal if and only if
+/// their encodings are.
 pub trait Choosing: Sized {
     ghost choice: { ChoiceOf Self };
 }

@@ -1,4 +1,4 @@
--- Domain names as section 4.2.1.10 compares them: labels with a period (46) between them, and ASCII letters in either case.
+-- Domain names as section 4.2.1.10 compares them: labels separated by periods (46), with ASCII letters in either case.
 use Rattle.std.specs.Prelude.{ℕ, ◌==◌, ◌-◌, nat_le, List, [], ◌∷◌, length, drop, Bool, true, false, ◌&&◌, ◌||◌, if◌then◌else◌}
 use Rattle.std.specs.Cmp.Lexicographic.{pointwise}
 use Rattle.der_verify.specs.Text.{same_character}
@@ -6,15 +6,15 @@ use Rattle.der_path.specs.declared.placement.Placement.{Placement}
 use Rattle.der_path.specs.declared.placement.Placement.TheVariants.{Undefined}
 use Rattle.der_path.specs.Placement.{inside_if}
 
--- texts that are equal but for the case of ASCII letters
+-- texts that are equal except for the case of ASCII letters
 abbrev pub same_letters : List ℕ → List ℕ → Bool
 same_letters = pointwise same_character
 
--- a text that ends with these octets, but for the case of letters
+-- a text that ends with these octets, except for the case of letters
 abbrev pub ends_so : List ℕ → List ℕ → Bool
 ends_so end text = nat_le (length end) (length text) && same_letters end (drop (length text - length end) text)
 
--- labels of one octet or more, with a period between two of them; `begun` says whether the label that the octets go on with has an octet before them
+-- labels of one octet or more, separated by periods; `begun` says whether the label at the front of the octets has an octet before them
 abbrev pub has_labels : Bool → List ℕ → Bool
 has_labels begun [] = begun
 has_labels begun (x ∷ xs) = if x == 46 then begun && has_labels false xs else has_labels true xs
@@ -26,14 +26,14 @@ is_domain = has_labels false
 abbrev pub is_within_domain : List ℕ → List ℕ → Bool
 is_within_domain constraint name = length constraint == 0 || (same_letters constraint name || ends_so (46 ∷ constraint) name)
 
--- a dNSName and a constraint
+-- the placement of a dNSName in a constraint
 abbrev pub domain_placement : List ℕ → List ℕ → Placement
 domain_placement constraint name =
     if (length constraint == 0 || is_domain constraint) && is_domain name
     then inside_if (is_within_domain constraint name)
     else Undefined
 
--- a constraint that names a host, or after a period a domain
+-- a constraint that is the name of a host, or a period and a domain name
 abbrev pub is_host_constraint : List ℕ → Bool
 is_host_constraint [] = false
 is_host_constraint (x ∷ xs) = if x == 46 then is_domain xs else is_domain (x ∷ xs)

@@ -7,7 +7,7 @@ use Rattle.der_path.specs.declared.placement.Placement.TheVariants.{Undefined}
 use Rattle.der_path.specs.Domains.{is_domain, is_host_constraint, is_within_host, same_letters}
 use Rattle.der_path.specs.Placement.{inside_if}
 
--- a mailbox (RFC 2821 section 4.1.2): the local part before the last @ (64), and the host after it
+-- the length of the part of a mailbox up to the last @ (64), after which the host begins (RFC 2821 section 4.1.2)
 abbrev pub start_of_host : List ℕ → ℕ
 start_of_host octets = length octets - suffix_len (λ x. not (x == 64)) octets
 
@@ -37,6 +37,6 @@ abbrev pub placement_of_mailbox : List ℕ → Option (List ℕ × List ℕ) →
 placement_of_mailbox constraint None = Undefined
 placement_of_mailbox constraint (Some name) = if is_mailbox name then placement_of_parts constraint (parts_of_mailbox constraint) name else Undefined
 
--- an rfc822Name and a constraint
+-- the placement of an rfc822Name in a constraint
 abbrev pub mailbox_placement : List ℕ → List ℕ → Placement
 mailbox_placement constraint name = placement_of_mailbox constraint (parts_of_mailbox name)

@@ -13,7 +13,7 @@ is_letter x = (nat_le 65 x && nat_le x 90) || (nat_le 97 x && nat_le x 122)
 abbrev pub is_digit : ℕ → Bool
 is_digit x = nat_le 48 x && nat_le x 57
 
--- the octets before the first of these, and those after it; none where there is none
+-- the octets before the first octet of this value, and those after it; none if it is absent
 abbrev pub split_first : ℕ → List ℕ → Option (List ℕ × List ℕ)
 split_first at octets =
     if nat_lt (position_or_len (λ x. x == at) octets) (length octets)
@@ -55,7 +55,7 @@ without_port others (Some (host, port)) = if list_all is_digit port then Some ho
 abbrev pub host_of : List ℕ → Option (List ℕ)
 host_of authority = let others = without_user authority (split_first 64 authority) in without_port others (split_first 58 others)
 
--- the last label has digits alone, as in an address; `so` says whether the label that the octets go on with has
+-- the last label has only digits, as in an address; `so` says whether the label at the front of the octets has only digits so far
 abbrev pub ends_in_number : Bool → List ℕ → Bool
 ends_in_number so [] = so
 ends_in_number so (x ∷ xs) = if x == 46 then ends_in_number true xs else ends_in_number (so && is_digit x) xs
@@ -63,7 +63,7 @@ ends_in_number so (x ∷ xs) = if x == 46 then ends_in_number true xs else ends_
 abbrev pub is_host_octet : ℕ → Bool
 is_host_octet x = is_letter x || (is_digit x || (x == 45 || x == 46))
 
--- "a host name specified as a fully qualified domain name": two labels or more of letters, digits and hyphens, of which the last is no number
+-- "a host name specified as a fully qualified domain name": two or more labels of letters, digits and hyphens, the last of which is no number
 abbrev pub is_full_name : List ℕ → Bool
 is_full_name host = is_domain host && (list_any (λ x. x == 46) host && (list_all is_host_octet host && not (ends_in_number true host)))
 
@@ -75,6 +75,6 @@ abbrev pub placement_of_authority : List ℕ → Option (List ℕ) → Placement
 placement_of_authority constraint None = Undefined
 placement_of_authority constraint (Some authority) = placement_of_host constraint (host_of authority)
 
--- a uniformResourceIdentifier and a constraint, which "applies to the host part of the name"
+-- the placement of a uniformResourceIdentifier in a constraint, which "applies to the host part of the name"
 abbrev pub resource_placement : List ℕ → List ℕ → Placement
 resource_placement constraint uri = placement_of_authority constraint (authority_of uri)

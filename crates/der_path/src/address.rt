@@ -1,5 +1,5 @@
-//! Addresses of the Internet and their constraints (RFC 5280 section 4.2.1.10): eight octets for version
-//! 4 and 32 for version 6, of which one half is an address and the other a mask.
+//! Addresses of the Internet and their constraints (RFC 5280 section 4.2.1.10): an address and a
+//! mask of the same length, together eight octets for version 4 and 32 for version 6.
 
 ghost use Rattle.std.specs.Prelude.{◌≡◌, ◌==◌};
 ghost use Rattle.std.specs.List.{list_all};
@@ -7,11 +7,12 @@ ghost use Rattle.der_path.specs.Addresses.{address_placement, is_address, is_cov
 
 use crate::placement::Placement;
 
-/// Where an iPAddress stands to a constraint: C0 00 02 01 is inside C0 00 02 00 FF FF FF 00, which is
-/// 192.0.2.0/24. An address of version 4 is outside a range of version 6, and the other way round.
+/// Returns the placement of an iPAddress in a constraint: C0 00 02 01 is inside C0 00 02 00 FF FF
+/// FF 00, which is 192.0.2.0/24. An address of version 4 is outside a range of version 6, and the
+/// other way round.
 ///
-/// The placement is undefined where the name does not have 4 or 16 octets or the constraint 8 or 32,
-/// and where the ones of the mask are not its first bits.
+/// The placement is undefined if the name does not have 4 or 16 octets, if the constraint does
+/// not have 8 or 32, or if the ones of the mask are not its first bits.
 pub fn address_placement(constraint: &[u8], name: &[u8]) -> Placement
     ensures { result ≡ address_placement constraint.now name.now }
 {
@@ -23,7 +24,7 @@ pub fn address_placement(constraint: &[u8], name: &[u8]) -> Placement
     }
 }
 
-/// Whether octets are an address, and a mask with as many.
+/// Returns whether octets are an address and a mask of the same length.
 fn is_range(constraint: &[u8]) -> bool
     ensures { result ≡ is_range constraint.now }
 {
@@ -31,14 +32,14 @@ fn is_range(constraint: &[u8]) -> bool
         && is_mask(&constraint[constraint.len() / 2..])
 }
 
-/// Whether octets are as many as those of an address.
+/// Returns whether octets have the length of an address.
 fn is_address(octets: &[u8]) -> bool
     ensures { result ≡ is_address octets.now }
 {
     octets.len() == 4 || octets.len() == 16
 }
 
-/// Whether the first bits of the octets are ones, and the others zeros.
+/// Returns whether the first bits of the octets are ones, and the others are zeros.
 fn is_mask(octets: &[u8]) -> bool
     ensures { result ≡ is_mask octets.now }
 {
@@ -52,14 +53,15 @@ fn is_mask(octets: &[u8]) -> bool
     true
 }
 
-/// Whether each octet is zero.
+/// Returns whether each octet is zero.
 fn are_zeros(octets: &[u8]) -> bool
     ensures { result ≡ list_all (λ x. x == 0) octets.now }
 {
     octets.iter().all(|octet| *octet == 0)
 }
 
-/// Whether the first bits of an octet are ones, and the others zeros: but for 255, of which all are.
+/// Returns whether the first bits of an octet are ones, and the others are zeros, for all octets
+/// but 255, which is all ones.
 fn is_part_of_mask(octet: u8) -> bool
     ensures { result ≡ is_part_of_mask octet }
 {
@@ -69,7 +71,7 @@ fn is_part_of_mask(octet: u8) -> bool
     }
 }
 
-/// Whether an address has the bits of another where the mask has ones.
+/// Returns whether an address has the bits of another where the mask has ones.
 fn is_covered(address: &[u8], mask: &[u8], name: &[u8]) -> bool
     ensures { result ≡ is_covered address.now mask.now name.now }
 {

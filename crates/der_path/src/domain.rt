@@ -8,10 +8,12 @@ ghost use Rattle.der_path.specs.Domains.{domain_placement, ends_so, is_domain, i
 
 use crate::placement::Placement;
 
-/// Where a dNSName stands to a constraint: `www.host.example.com` is inside `host.example.com`, and
-/// `host1.example.com` is outside. Each dNSName is inside the empty constraint.
+/// Returns the placement of a dNSName in a constraint: `www.host.example.com` is inside
+/// `host.example.com`, and `host1.example.com` is outside. Each dNSName is inside the empty
+/// constraint.
 ///
-/// The placement is undefined where the name or the constraint has an empty label, as `.example.com`.
+/// The placement is undefined if the name or the constraint has an empty label, such as
+/// `.example.com`.
 pub fn domain_placement(constraint: &[u8], name: &[u8]) -> Placement
     ensures { result ≡ domain_placement constraint.now name.now }
 {
@@ -22,21 +24,21 @@ pub fn domain_placement(constraint: &[u8], name: &[u8]) -> Placement
     }
 }
 
-/// Whether a name is a domain name with zero or more labels added to its left-hand side.
+/// Returns whether a name is a domain name with zero or more labels added to its left-hand side.
 fn is_within_domain(constraint: &[u8], name: &[u8]) -> bool
     ensures { result ≡ is_within_domain constraint.now name.now }
 {
     constraint.len() == 0 || same_letters(constraint, name) || ends_after_period(constraint, name)
 }
 
-/// Whether a name ends with a period and these octets.
+/// Returns whether a name ends with a period and these octets.
 fn ends_after_period(end: &[u8], name: &[u8]) -> bool
     ensures { result ≡ ends_so (46 ∷ end.now) name.now }
 {
     name.len() > end.len() && is_after_period(end, &name[name.len() - (end.len() + 1)..])
 }
 
-/// Whether a text is a period and these octets.
+/// Returns whether a text is a period and these octets.
 fn is_after_period(end: &[u8], text: &[u8]) -> bool
     ensures { result ≡ same_letters (46 ∷ end.now) text.now }
 {
@@ -46,7 +48,7 @@ fn is_after_period(end: &[u8], text: &[u8]) -> bool
     }
 }
 
-/// Whether octets are labels of one octet or more, with a period between two of them.
+/// Returns whether octets are labels of one octet or more, separated by periods.
 pub(crate) fn is_domain(octets: &[u8]) -> bool
     ensures { result ≡ is_domain octets.now }
 {
@@ -65,7 +67,7 @@ pub(crate) fn is_domain(octets: &[u8]) -> bool
     begun
 }
 
-/// Whether a constraint is a domain name, or a period and a domain name.
+/// Returns whether a constraint is a domain name, or a period and a domain name.
 pub(crate) fn is_host_constraint(constraint: &[u8]) -> bool
     ensures { result ≡ is_host_constraint constraint.now }
 {
@@ -79,8 +81,8 @@ pub(crate) fn is_host_constraint(constraint: &[u8]) -> bool
     }
 }
 
-/// Whether a host is that of a constraint, or, where the constraint begins with a period, ends with it:
-/// `my.host.example.com` and `.example.com`.
+/// Returns whether a host is the one of a constraint, or, if the constraint begins with a period,
+/// ends with it, such as `my.host.example.com` with `.example.com`.
 pub(crate) fn is_within_host(constraint: &[u8], host: &[u8]) -> bool
     ensures { result ≡ is_within_host constraint.now host.now }
 {
@@ -94,14 +96,14 @@ pub(crate) fn is_within_host(constraint: &[u8], host: &[u8]) -> bool
     }
 }
 
-/// Whether a text ends with these octets, but for the case of letters.
+/// Returns whether a text ends with these octets, except for the case of letters.
 fn ends_so(end: &[u8], text: &[u8]) -> bool
     ensures { result ≡ ends_so end.now text.now }
 {
     text.len() >= end.len() && same_letters(end, &text[text.len() - end.len()..])
 }
 
-/// Whether two texts are equal but for the case of letters.
+/// Returns whether two texts are equal except for the case of letters.
 pub(crate) fn same_letters(first: &[u8], second: &[u8]) -> bool
     ensures { result ≡ same_letters first.now second.now }
 {
@@ -120,14 +122,14 @@ pub(crate) fn same_letters(first: &[u8], second: &[u8]) -> bool
     right.len() == 0
 }
 
-/// Whether two octets are equal but for the case of letters.
+/// Returns whether two octets are equal except for the case of letters.
 fn same_character(first: u8, second: u8) -> bool
     ensures { result ≡ same_character first second }
 {
     lower(first) == lower(second)
 }
 
-/// A letter in lower case.
+/// Returns a letter in lower case.
 fn lower(octet: u8) -> u8
     ensures { result ≡ folded octet }
 {

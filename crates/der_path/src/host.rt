@@ -5,12 +5,12 @@ ghost use Rattle.der_path.specs.Hosts.{from_period, is_after_period, names_host}
 
 use crate::domain::{is_domain, same_letters};
 
-/// Whether a dNSName of a certificate names a host: both are domain names, and equal but for the case
-/// of letters; or the name is `*.` before a domain name, and the host is one label before a period and
-/// this domain name.
+/// Returns whether a dNSName of a certificate names a host. Either both are domain names, and
+/// equal except for the case of letters; or the name is `*.` and a domain name, and the host is
+/// one label, a period and this domain name.
 ///
-/// `*.example.com` names `www.example.com`, and neither `example.com` nor `a.www.example.com`. A name
-/// with `*` in another place names no host.
+/// `*.example.com` names `www.example.com`, and neither `example.com` nor `a.www.example.com`. A
+/// name with `*` anywhere else names no host.
 pub fn names_host(name: &[u8], host: &[u8]) -> bool
     ensures { result ≡ names_host name.now host.now }
 {
@@ -24,7 +24,7 @@ pub fn names_host(name: &[u8], host: &[u8]) -> bool
     }
 }
 
-/// Whether a text is a period and a domain name.
+/// Returns whether a text is a period and a domain name.
 fn is_after_period(text: &[u8]) -> bool
     ensures { result ≡ is_after_period text.now }
 {
@@ -34,7 +34,7 @@ fn is_after_period(text: &[u8]) -> bool
     }
 }
 
-/// What a host has after its first label: a period and the other labels, or nothing.
+/// Returns the part of a host after its first label: a period and the other labels, or nothing.
 fn from_period(host: &[u8]) -> &[u8]
     ensures { result.now ≡ from_period host.now }
 {

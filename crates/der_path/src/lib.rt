@@ -1,5 +1,5 @@
-//! A chain of certificates as RFC 5280 section 6 validates it: so far the names of section 4.2.1.10, each
-//! beside a constraint.
+//! Validation of a chain of certificates (RFC 5280 section 6): so far the names of section
+//! 4.2.1.10, each compared with a constraint.
 #![tactic(auto)]
 
 mod address;

@@ -8,11 +8,11 @@ ghost use Rattle.der_path.specs.Mailboxes.{is_mailbox, is_same_mailbox, mailbox_
 use crate::domain::{is_domain, is_host_constraint, is_within_host, same_letters};
 use crate::placement::Placement;
 
-/// Where an rfc822Name stands to a constraint. `root@mill.example.com` is inside
+/// Returns the placement of an rfc822Name in a constraint. `root@mill.example.com` is inside
 /// `root@mill.example.com`, `mill.example.com` and `.example.com`, and outside `example.com`.
 ///
-/// The placement is undefined where the name is no mailbox, or the constraint is no mailbox, host or
-/// period before a domain.
+/// The placement is undefined if the name is no mailbox, or if the constraint is no mailbox, no
+/// host, and no period before a domain.
 pub fn mailbox_placement(constraint: &[u8], name: &[u8]) -> Placement
     ensures { result ≡ mailbox_placement constraint.now name.now }
 {
@@ -28,7 +28,7 @@ pub fn mailbox_placement(constraint: &[u8], name: &[u8]) -> Placement
     }
 }
 
-/// Where a mailbox stands to a particular mailbox.
+/// Returns the placement of a mailbox in a particular mailbox.
 fn placement_at_mailbox(only: &[u8], place: &[u8], local: &[u8], host: &[u8]) -> Placement
     ensures { result ≡ placement_at_mailbox (only.now, place.now) (local.now, host.now) }
 {
@@ -39,7 +39,7 @@ fn placement_at_mailbox(only: &[u8], place: &[u8], local: &[u8], host: &[u8]) ->
     }
 }
 
-/// Where a mailbox at this host stands to a host, or to a period before a domain.
+/// Returns the placement of a mailbox at this host in a host, or in a period before a domain.
 fn placement_at_host(constraint: &[u8], host: &[u8]) -> Placement
     ensures { result ≡ placement_at_host constraint.now host.now }
 {
@@ -50,14 +50,14 @@ fn placement_at_host(constraint: &[u8], host: &[u8]) -> Placement
     }
 }
 
-/// Whether these are the local part and the host of a mailbox.
+/// Returns whether these are the local part and the host of a mailbox.
 fn is_mailbox(local: &[u8], host: &[u8]) -> bool
     ensures { result ≡ is_mailbox (local.now, host.now) }
 {
     local.len() != 0 && is_domain(host)
 }
 
-/// The octets before the last `@`, and those after it.
+/// Returns the octets before the last `@`, and those after it.
 fn parts_of_mailbox(octets: &[u8]) -> Option<(&[u8], &[u8])>
     ensures { option_map (λ found. (found.0.now, found.1.now)) result ≡ parts_of_mailbox octets.now }
 {
@@ -69,7 +69,7 @@ fn parts_of_mailbox(octets: &[u8]) -> Option<(&[u8], &[u8])>
     }
 }
 
-/// The number of octets up to the last `@` and with it, none where there is no `@`.
+/// Returns the number of octets up to and including the last `@`, or 0 if there is none.
 fn start_of_host(octets: &[u8]) -> usize
     ensures value { result ≡ start_of_host octets.now }
     ensures bound { result ≤ length octets.now }

@@ -8,12 +8,13 @@ ghost use Rattle.der_path.specs.Resources.{authority_after, authority_of, ends_a
 use crate::domain::{is_domain, is_host_constraint, is_within_host};
 use crate::placement::Placement;
 
-/// Where a uniformResourceIdentifier stands to a constraint. `https://my.host.example.com/a` is inside
-/// `.example.com` and `my.host.example.com`, and outside `host.example.com`.
+/// Returns the placement of a uniformResourceIdentifier in a constraint.
+/// `https://my.host.example.com/a` is inside `.example.com` and `my.host.example.com`, and
+/// outside `host.example.com`.
 ///
-/// The placement is undefined where the URI has no host that is a fully qualified domain name: "the
-/// application MUST reject the certificate". It is undefined too where the constraint is no domain
-/// name, or period before one.
+/// The placement is undefined if the URI has no host that is a fully qualified domain name: "the
+/// application MUST reject the certificate". It is also undefined if the constraint is neither a
+/// domain name nor a period before one.
 pub fn resource_placement(constraint: &[u8], uri: &[u8]) -> Placement
     ensures { result ≡ resource_placement constraint.now uri.now }
 {
@@ -26,7 +27,7 @@ pub fn resource_placement(constraint: &[u8], uri: &[u8]) -> Placement
     }
 }
 
-/// Where a host stands to a constraint.
+/// Returns the placement of a host in a constraint.
 fn placement_of_host(constraint: &[u8], host: &[u8]) -> Placement
     ensures { result ≡ placement_of_host constraint.now (Some host.now) }
 {
@@ -37,7 +38,7 @@ fn placement_of_host(constraint: &[u8], host: &[u8]) -> Placement
     }
 }
 
-/// The authority of a URI, which stands between `//` and the next `/`, `?` or `#`.
+/// Returns the authority of a URI, which is between `//` and the next `/`, `?` or `#`.
 fn authority_of(uri: &[u8]) -> Option<&[u8]>
     ensures { option_map (λ found. found.now) result ≡ authority_of uri.now }
 {
@@ -51,7 +52,7 @@ fn authority_of(uri: &[u8]) -> Option<&[u8]>
     }
 }
 
-/// The authority after a scheme and its colon.
+/// Returns the authority after a scheme and its colon.
 fn authority_after(others: &[u8]) -> Option<&[u8]>
     ensures { option_map (λ found. found.now) result ≡ authority_after others.now }
 {
@@ -67,14 +68,15 @@ fn authority_after(others: &[u8]) -> Option<&[u8]>
     }
 }
 
-/// The octets before the first `/`, `?` or `#`.
+/// Returns the octets before the first `/`, `?` or `#`.
 fn before_end(octets: &[u8]) -> &[u8]
     ensures { result.now ≡ before_first ends_authority octets.now }
 {
     &octets[..count_before_end(octets)]
 }
 
-/// The number of octets before the first `/`, `?` or `#`, or of all.
+/// Returns the number of octets before the first `/`, `?` or `#`, or of all octets if there is
+/// none.
 fn count_before_end(octets: &[u8]) -> usize
     ensures value { result ≡ position_or_len ends_authority octets.now }
     ensures bound { result ≤ length octets.now }
@@ -91,14 +93,14 @@ fn count_before_end(octets: &[u8]) -> usize
     count
 }
 
-/// Whether an octet stands after the authority of a URI.
+/// Returns whether an octet ends the authority of a URI.
 fn ends_authority(octet: u8) -> bool
     ensures { result ≡ ends_authority octet }
 {
     octet == b'/' || octet == b'?' || octet == b'#'
 }
 
-/// The host of an authority, without the user before it and the port after it.
+/// Returns the host of an authority, without the user before it and the port after it.
 fn host_of(authority: &[u8]) -> Option<&[u8]>
     ensures { option_map (λ found. found.now) result ≡ host_of authority.now }
 {
@@ -109,7 +111,7 @@ fn host_of(authority: &[u8]) -> Option<&[u8]>
     }
 }
 
-/// What follows the user of an authority.
+/// Returns the part of an authority after the user.
 fn without_user(authority: &[u8]) -> &[u8]
     ensures { result.now ≡ without_user authority.now (split_first 64 authority.now) }
 {
@@ -119,7 +121,7 @@ fn without_user(authority: &[u8]) -> &[u8]
     }
 }
 
-/// The octets before the first one of these, and those after it.
+/// Returns the octets before the first octet of this value, and those after it.
 fn split_first(at: u8, octets: &[u8]) -> Option<(&[u8], &[u8])>
     ensures { option_map (λ found. (found.0.now, found.1.now)) result ≡ split_first at octets.now }
 {
@@ -131,7 +133,8 @@ fn split_first(at: u8, octets: &[u8]) -> Option<(&[u8], &[u8])>
     }
 }
 
-/// The number of octets before the first one of these, or of all.
+/// Returns the number of octets before the first octet of this value, or of all octets if there
+/// is none.
 fn count_before(at: u8, octets: &[u8]) -> usize
     ensures value { result ≡ position_or_len (λ x. x == at) octets.now }
     ensures bound { result ≤ length octets.now }
@@ -148,7 +151,7 @@ fn count_before(at: u8, octets: &[u8]) -> usize
     count
 }
 
-/// Whether octets are a scheme.
+/// Returns whether octets are a scheme.
 fn is_scheme(octets: &[u8]) -> bool
     ensures { result ≡ is_scheme octets.now }
 {
@@ -158,50 +161,50 @@ fn is_scheme(octets: &[u8]) -> bool
     }
 }
 
-/// Whether each octet stands in a scheme after the first.
+/// Returns whether each octet may occur in a scheme after its first octet.
 fn are_scheme_octets(octets: &[u8]) -> bool
     ensures { result ≡ list_all is_scheme_octet octets.now }
 {
     octets.iter().all(|octet| is_scheme_octet(*octet))
 }
 
-/// Whether an octet stands in a scheme after the first.
+/// Returns whether an octet may occur in a scheme after its first octet.
 fn is_scheme_octet(octet: u8) -> bool
     ensures { result ≡ is_scheme_octet octet }
 {
     is_letter(octet) || is_digit(octet) || octet == b'+' || octet == b'-' || octet == b'.'
 }
 
-/// Whether a host is a fully qualified domain name: two labels or more of letters, digits and hyphens,
-/// of which the last is no number.
+/// Returns whether a host is a fully qualified domain name: two or more labels of letters, digits
+/// and hyphens, the last of which is no number.
 fn is_full_name(host: &[u8]) -> bool
     ensures { result ≡ is_full_name host.now }
 {
     is_domain(host) && has_period(host) && are_host_octets(host) && !ends_in_number(host)
 }
 
-/// Whether there is a period between two labels.
+/// Returns whether there is a period between two labels.
 fn has_period(host: &[u8]) -> bool
     ensures { result ≡ list_any (λ x. x == 46) host.now }
 {
     host.iter().any(|octet| *octet == b'.')
 }
 
-/// Whether each octet stands in the name of a host.
+/// Returns whether each octet may occur in the name of a host.
 fn are_host_octets(host: &[u8]) -> bool
     ensures { result ≡ list_all is_host_octet host.now }
 {
     host.iter().all(|octet| is_host_octet(*octet))
 }
 
-/// Whether an octet stands in the name of a host.
+/// Returns whether an octet may occur in the name of a host.
 fn is_host_octet(octet: u8) -> bool
     ensures { result ≡ is_host_octet octet }
 {
     is_letter(octet) || is_digit(octet) || octet == b'-' || octet == b'.'
 }
 
-/// Whether the last label has digits alone.
+/// Returns whether the last label has only digits.
 fn ends_in_number(host: &[u8]) -> bool
     ensures { result ≡ ends_in_number true host.now }
 {
@@ -214,21 +217,21 @@ fn ends_in_number(host: &[u8]) -> bool
     so
 }
 
-/// Whether an octet is a letter of ASCII.
+/// Returns whether an octet is a letter of ASCII.
 fn is_letter(octet: u8) -> bool
     ensures { result ≡ is_letter octet }
 {
     (b'A' <= octet && octet <= b'Z') || (b'a' <= octet && octet <= b'z')
 }
 
-/// Whether each octet is a digit of ASCII.
+/// Returns whether each octet is a digit of ASCII.
 fn are_digits(octets: &[u8]) -> bool
     ensures { result ≡ list_all is_digit octets.now }
 {
     octets.iter().all(|octet| is_digit(*octet))
 }
 
-/// Whether an octet is a digit of ASCII.
+/// Returns whether an octet is a digit of ASCII.
 fn is_digit(octet: u8) -> bool
     ensures { result ≡ is_digit octet }
 {

@@ -1,4 +1,4 @@
--- The header that stands behind so many octets is read there.
+-- The header at an offset is read there.
 use Rattle.std.proofs.Common.{◌≡◌, ℕ, ◌+◌, ◌-◌, ◌<◌, ◌≤◌, ◌^◌, ◌++◌, List, Bool, true, false, length, take, drop, Option, Some, None, Result, Ok, Err, sym, ap, ◌∙◌, arith, subst, append_assoc}
 use Rattle.std.proofs.lemmas.List.{length-append, take_all}
 use Rattle.std.proofs.Math.Seq.{drop-append_seam}
@@ -12,7 +12,7 @@ use Rattle.der_tlv.specs.ReaderState.{ReaderState, new_reader, after_read, rest,
 use Rattle.der_places.specs.declared.place.Place.{Place}
 use Rattle.der_places.specs.Walking.{StandAt, IsEncoding, EntersContents, FindsHeader, Follows, HoldsContents, Measures}
 
--- the octets of what stands there are counted by those of all
+-- the end of an encoding is an offset that a length can count
 counted : (octets : List ℕ) (n : ℕ) (own : List ℕ) → StandAt octets n own → n + length own < 2 ^ 32
 counted octets n own s =
     let l1 = ap length s.octets_are ∙ length-append s.before (own ++ s.after) in
@@ -35,7 +35,7 @@ header_there octets p n own e s =
     let short : length e.contents < 2 ^ 32 = omega arith in
     ap (λ o. read_header p (drop n o)) whole ∙ ap (read_header p) (behind ∙ regroup) ∙ read_header-octets e.tag (length e.contents) p (e.contents ++ s.after) e.is_tag short
 
--- the header of what was read, if there is one
+-- the header in a result of reading, if it is one
 abbrev header_of : Result (ℕ × Header) ErrorKind → Option Header
 header_of (Ok (n, h)) = Some h
 header_of (Err k) = None
@@ -55,7 +55,7 @@ found octets offset n m old state h e f g parsed own one s =
     let moved : read_header state.position (rest state) ≡ unless_failed read_header state = ap (λ r. read_header r.position (rest r)) at ∙ sym (ap (unless_failed read_header) at) in
     ap header_of (sym parsed ∙ moved ∙ read_there octets offset state at own one s)
 
--- it cannot be that none was read
+-- reading the header cannot fail
 pub not_refused : (octets : List ℕ) (offset n : ℕ) (old state : ReaderState) (k : ErrorKind) → old ≡ new_reader octets Der → n ≡ offset → state ≡ after_read old n → unless_failed read_header state ≡ Err k → FindsHeader octets offset None
 not_refused octets offset n old state k e f g refused own one s =
     let there = read_there octets offset state (at_start octets offset n old state e f g) own one s in
@@ -69,7 +69,7 @@ header_is h own e same = ap (held h) same
     held default None = default
     held default (Some g) = g
 
--- the length of what stands there
+-- the length of the encoding at an offset
 pub measured : (octets : List ℕ) (offset : ℕ) (h : Header) (count : ℕ) → FindsHeader octets offset (Some h) → (length (octets_of h) + h.length < 2 ^ 32 → count ≡ length (octets_of h) + h.length) → Measures octets offset count
 measured octets offset h count finds counts own e s =
     let same : h ≡ header e.tag (length e.contents) = header_is h own e (finds own e s) in
@@ -78,7 +78,7 @@ measured octets offset h count finds counts own e s =
     let fits : length (octets_of h) + h.length < 2 ^ 32 = omega arith in
     counts fits ∙ lengths
 
--- where the contents octets stand, from where they begin and where the encoding ends
+-- the byte range of the contents octets, from their start and the end of the encoding
 pub contents_there : (octets : List ℕ) (place start contents : Place) (end : ℕ) → EntersContents octets place.offset start → (place.offset + place.length < 2 ^ 32 → end ≡ place.offset + place.length) → contents.offset ≡ start.offset → (start.offset ≤ end → contents.length ≡ end - start.offset) → HoldsContents octets place contents
 contents_there octets place start contents end enters ends at counts own e s l =
     let begins = (enters own e s).0 in
@@ -90,7 +90,7 @@ contents_there octets place start contents end enters ends at counts own e s l =
     let count = counts ordered in
     (at ∙ begins, omega arith)
 
--- there is no encoding where no header is found
+-- if no header is found, no encoding is at the offset
 none_there : {A : Type 0} (octets : List ℕ) (offset : ℕ) → FindsHeader octets offset None → (own : List ℕ) → IsEncoding own → StandAt octets offset own → A
 none_there octets offset finds own e s = absurd (subst told (finds own e s) tt)
   where
@@ -104,7 +104,7 @@ missing octets offset count finds own e s = none_there octets offset finds own e
 pub not_entered : (octets : List ℕ) (offset : ℕ) (place : Place) → FindsHeader octets offset None → EntersContents octets offset place
 not_entered octets offset place finds own e s = none_there octets offset finds own e s
 
--- the place behind the header of what stands there
+-- the empty byte range after the header of the encoding at an offset
 pub entering : (octets : List ℕ) (offset : ℕ) (h : Header) (place : Place) → FindsHeader octets offset (Some h) → (offset + length (octets_of h) < 2 ^ 32 → place.offset ≡ offset + length (octets_of h)) → place.length ≡ 0 → EntersContents octets offset place
 entering octets offset h place finds begins none own e s =
     let same : h ≡ header e.tag (length e.contents) = header_is h own e (finds own e s) in
@@ -114,7 +114,7 @@ entering octets offset h place finds begins none own e s =
     let fits : offset + length (octets_of h) < 2 ^ 32 = omega arith in
     (begins fits ∙ ap (λ k. offset + k) head, none)
 
--- the field behind a place: one that is there, and one that is absent
+-- the byte range of the field after another, if it is present and if it is absent
 pub present : (octets : List ℕ) (last place : Place) (end : ℕ) → (last.offset + last.length < 2 ^ 32 → end ≡ last.offset + last.length) → Measures octets end place.length → place.offset ≡ end → Follows octets last true place
 present octets last place end ends measures at own is_field s =
     let all = counted octets (last.offset + last.length) own s in
@@ -128,6 +128,6 @@ absent octets last place end ends at none own is_field s =
     let fits : last.offset + last.length < 2 ^ 32 = omega arith in
     (at ∙ ends fits, none ∙ sym (ap length is_field))
 
--- of either, as a test told it
+-- the byte range of the field, if a test returned whether it is present
 pub either : (octets : List ℕ) (last place : Place) (b d : Bool) → d ≡ b → Follows octets last b place → Follows octets last d place
 either octets last place b d e follows = subst (λ x. Follows octets last x place) (sym e) follows

@@ -15,7 +15,7 @@ use der_elem::Form;
 use der_opaque::{AnyRef, ObjectIdentifierRef};
 use der_pkix::AlgorithmIdentifier;
 
-/// Where the fields of an `AlgorithmIdentifier` stand (RFC 5280 4.1.1.2).
+/// The byte ranges of the fields of an `AlgorithmIdentifier` (RFC 5280 4.1.1.2).
 #[repr(C)]
 #[derive(Clone, Copy, Debug, PartialEq, Eq)]
 pub struct AlgorithmIdentifierPlaces {

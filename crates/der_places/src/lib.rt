@@ -1,4 +1,4 @@
-//! Where the fields of a message stand in its octets, each as a whole encoding.
+//! The byte ranges of the fields of a message in its octets, each as a whole encoding.
 #![tactic(auto)]
 
 pub mod algorithm;

@@ -1,9 +1,9 @@
-//! Whether a field that may be absent is there.
+//! Whether a field that may be absent is present.
 
 ghost use Rattle.std.specs.Prelude.{◌≡◌, option_copied};
 ghost use Rattle.der_places.specs.Layout.{is_there};
 
-/// Whether a field is there, of which a value lends what it holds.
+/// Returns whether a field that is borrowed is present.
 pub fn is_there<T>(field: Option<&T>) -> bool
     ensures { result ≡ is_there (option_copied field.entry) }
 {
@@ -13,7 +13,7 @@ pub fn is_there<T>(field: Option<&T>) -> bool
     }
 }
 
-/// Whether a field is there, which is copied.
+/// Returns whether a field that is copied is present.
 pub fn is_some<T: Copy>(field: Option<T>) -> bool
     ensures { result ≡ is_there field }
 {

@@ -7,8 +7,8 @@ ghost use Rattle.der_places.specs.Walking.{EntersContents, FindsHeader, Follows,
 use crate::place::Place;
 use der_tlv::{Header, Length, Reader, SliceReader};
 
-/// The place of the field that stands behind another: an encoding of which the header is read, where
-/// the field is there, and no octets where it is absent.
+/// Returns the byte range of the field after another. If the field is present, it is an encoding,
+/// and its header is read; if it is absent, its byte range is empty.
 pub fn next_place(octets: &[u8], last: Place, is_there: bool) -> Place
     ensures { Follows octets.now last is_there result }
 {
@@ -21,8 +21,7 @@ pub fn next_place(octets: &[u8], last: Place, is_there: bool) -> Place
     }
 }
 
-/// The place of no octets at which the contents octets begin of the encoding that stands behind so
-/// many octets.
+/// Returns the empty byte range at the start of the contents octets of the encoding at an offset.
 pub fn start_of_contents(octets: &[u8], offset: u32) -> Place
     ensures { EntersContents octets.now offset result }
 {
@@ -32,7 +31,7 @@ pub fn start_of_contents(octets: &[u8], offset: u32) -> Place
     }
 }
 
-/// The place of no octets behind a header.
+/// Returns the empty byte range after a header.
 fn behind_header(offset: u32, header: Header) -> Place
     ensures offset { offset + length (octets_of header) < 2 ^ 32
         → result.offset ≡ offset + length (octets_of header) }
@@ -45,9 +44,9 @@ fn behind_header(offset: u32, header: Header) -> Place
     }
 }
 
-/// The place of the contents octets of the encoding at a place.
+/// Returns the byte range of the contents octets of the encoding at a byte range.
 ///
-/// In 02 01 05 they are the one octet behind two.
+/// In 02 01 05 it is the one octet at offset 2.
 pub fn contents_of(octets: &[u8], place: Place) -> Place
     ensures { HoldsContents octets.now place result }
 {
@@ -59,14 +58,14 @@ pub fn contents_of(octets: &[u8], place: Place) -> Place
     }
 }
 
-/// How many octets stand between two positions, 0 where the first is not before the second.
+/// Returns the number of octets between two offsets, or 0 if the first is not before the second.
 fn between(begin: u32, end: u32) -> u32
     ensures { begin ≤ end → result ≡ end - begin }
 {
     end.saturating_sub(begin)
 }
 
-/// How many octets the encoding has that stands behind so many others.
+/// Returns the number of octets in the encoding at an offset.
 fn encoding_len(octets: &[u8], offset: u32) -> u32
     ensures { Measures octets.now offset result }
 {
@@ -76,7 +75,7 @@ fn encoding_len(octets: &[u8], offset: u32) -> u32
     }
 }
 
-/// How many octets a header and its contents octets have, at most 4294967295.
+/// Returns the number of octets in a header and its contents octets, at most 4294967295.
 fn whole_len(header: Header) -> u32
     ensures { length (octets_of header) + header.length < 2 ^ 32
         → result ≡ length (octets_of header) + header.length }
@@ -89,7 +88,7 @@ fn whole_len(header: Header) -> u32
         .saturating_add(contents_len)
 }
 
-/// The header that stands behind so many octets.
+/// Returns the header at an offset.
 fn header_at(octets: &[u8], offset: u32) -> Option<Header>
     ensures { FindsHeader octets.now offset result }
 {

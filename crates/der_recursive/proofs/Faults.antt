@@ -1,4 +1,4 @@
--- Octets with a fault are not values to a depth.
+-- Octets with an error are not values to a depth.
 use Rattle.std.proofs.Common.{◌≡◌, ℕ, zero, suc, ◌<◌, ◌≤◌, ◌^◌, List, [], ◌∷◌, ◌++◌, length, Result, Ok, Err, IsOk, IfErr, ◌↔◌, true, false, refl, sym, ap, ◌∙◌, arith, subst, inl, inr}
 use Rattle.std.specs.List.{All}
 use Rattle.std.proofs.Math.Seq.{take-length}
@@ -22,7 +22,7 @@ All-middle : {X : Type 0} (P : X → Type 0) (xs : List X) (y : X) (ys : List X)
 All-middle P [] y ys all = All-head P y ys all
 All-middle P (x ∷ xs) y ys all = All-middle P xs y ys (All-tail P x (xs ++ y ∷ ys) all)
 
--- a reader of octets is refused for no other reason
+-- a reader of octets is refused only if they are more than a length can count
 pub refuses_long : (len : ℕ) → (len < 2 ^ 32 → false ≡ true) → 2 ^ 32 ≤ len
 refuses_long len refused = elim (cases_lt len (2 ^ 32)) [
   | inl short ↦ absurd (let e = refused short in cc)
@@ -53,7 +53,7 @@ module _ {T : Type 0} (F : form.Ghosts T) (held : T → List (List ℕ)) where
     nothing = λ none. absurd (omega (arith, ap length none));
   }
 
-  -- whether octets are left where no value may stand
+  -- whether octets are left where no value is allowed
   pub at_zero : (octets : List ℕ) (now : ReaderState) (answer : Result (Unit {0}) Error) → now ≡ new_reader octets Der → Fits octets → IsOk answer ↔ (rest now ≡ []) → IfErr answer (λ e. e.kind ≡ Overlength) → ChecksDepth F held 0 octets answer
   at_zero octets now (Ok done) new fits ok err = none_at_zero octets (sym (ap rest new ∙ take-length octets) ∙ ok.0 refl)
   at_zero octets now (Err e) new fits ok err =
@@ -64,11 +64,11 @@ module _ {T : Type 0} (F : form.Ghosts T) (held : T → List (List ℕ)) where
       too_deep octets e.kind fits some err
 
   module _ (nonempty : (v : T) (b : List ℕ) → F.accepts Der v b → 0 < length b) (by_encoding : (v w : T) → F.encoding v ≡ F.encoding w → held v ≡ held w) (n : ℕ) where
-    -- what is held is not as wanted
+    -- the octets that a value holds are not all as wanted
     not_held : (w : T) (kind : ErrorKind) → FirstFaulty (AreValuesTo F held n) (λ octets. AreNot F held n octets kind) (held w) → All (AreValuesTo F held n) (held w) → ⊥
     not_held w kind f all = f.faulty.nothing (All-middle (AreValuesTo F held n) f.before f.octets f.after (subst (All (AreValuesTo F held n)) f.all_are all))
 
-    -- where the next value has a fault, no values stand
+    -- if the next value has an error, the octets are not values
     none_next : (p : ℕ) (left : List ℕ) (kind : ErrorKind) → Fits left → 0 < length left → NextFault F held (AreValuesTo F held n) (AreNot F held n) p left kind → (ws : List T) → AcceptsItems (F.accepts Der) ws left → All (λ w. All (AreValuesTo F held n) (held w)) ws → ⊥
     none_next p left kind fits some next [] none all = absurd (omega (arith, ap length none))
     none_next p left kind fits some (inl fault) (w ∷ ws) (b, d, e, a, more) all =
@@ -93,7 +93,7 @@ module _ {T : Type 0} (F : form.Ghosts T) (held : T → List (List ℕ)) where
           holds = record { before = h.before; octets = h.octets; after = h.after; all_are = h.all_are; wanted = h.wanted; faulty = h.faulty.fault };
         })
 
-    -- values stand first, and then comes a fault
+    -- values come first, and then an error
     pub fault_behind : (octets : List ℕ) (kind : ErrorKind) → FaultBehind F held (AreValuesTo F held n) (AreNot F held n) octets kind → AreNot F held (suc n) octets kind
     unfolding AreValuesTo IsFirstFault
     fault_behind octets kind f = record {

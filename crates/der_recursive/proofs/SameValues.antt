@@ -15,12 +15,12 @@ pub same_result : (x y : ℕ × List ℕ) (r : Result (ℕ × List ℕ) ErrorKin
 same_result x y r e f = cc
 
 module _ {T : Type 0} (F : form.Ghosts T) (nonempty : (v : T) (b : List ℕ) → F.accepts Der v b → 0 < length b) where
-  -- the value that stands at the front is the one that is parsed
+  -- the value at the front is the one that is parsed
   pub first_parsed : (v : T) (p : ℕ) (octets b d : List ℕ) → octets ≡ b ++ d → F.accepts Der v b → Fits octets → F.parse Der p octets ≡ Ok (length b, F.encoding v)
   first_parsed v p octets [] d e a fits = absurd (let some = nonempty v [] a in omega arith)
   first_parsed v p octets (y ∷ b) d e a fits = ap (F.parse Der p) e ∙ F.parse_of_accepted Der v p (y ∷ b) d a (first_fits octets (y ∷ b) d e fits) tt
 
-  -- one value stands at the front, with one encoding
+  -- one value is at the front, with one encoding
   pub record SameFirst (v w : T) (d d' : List ℕ) : Type 0 where
     pub encodings : F.encoding v ≡ F.encoding w
     pub behind : d ≡ d'
@@ -34,7 +34,7 @@ module _ {T : Type 0} (F : form.Ghosts T) (nonempty : (v : T) (b : List ℕ) →
         behind = sym (drop-append_seam b d) ∙ ap (drop (length b)) (sym e ∙ e') ∙ ap (λ n. drop n (b' ++ d')) long ∙ drop-append_seam b' d';
       }
 
-  -- the values of another reading that stand behind those of this one
+  -- the values of another reading after those of this one
   pub record Behind (P : T → Type 0) (left : List ℕ) : Type 0 where
     pub others : List T
     pub accepted : AcceptsItems (F.accepts Der) others left

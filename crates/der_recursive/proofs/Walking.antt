@@ -1,4 +1,4 @@
--- Values that are read one after another, and what each holds.
+-- Values that are read one after another, and the octets that each holds.
 use Rattle.std.proofs.Common.{◌≡◌, ℕ, suc, ◌<◌, List, [], ◌∷◌, ◌++◌, length, take, drop, false, refl, sym, ap, ◌∙◌, arith, subst}
 use Rattle.std.specs.List.{All}
 use Rattle.std.proofs.Math.Seq.{take-length}
@@ -17,7 +17,7 @@ use Rattle.der_recursive.specs.Checking.{NextFault, AreNot}
 use Rattle.der_recursive.specs.CheckingNext.{NextChecked}
 use Rattle.der_recursive.proofs.Faults.{fault_behind}
 
--- the values so far, and that what they hold are values to a depth
+-- the values so far, and the octets that they hold are values to a depth
 pub record WalkedSoFar {T : Type 0} (F : form.Ghosts T) (held : T → List (List ℕ)) (n : ℕ) (octets : List ℕ) (now : ReaderState) : Type 0 where
   pub values : List T
   pub so_far : ItemsSoFar F (new_reader octets Der) now values
@@ -50,7 +50,7 @@ module _ {T : Type 0} {F : form.Ghosts T} {held : T → List (List ℕ)} {n : �
     octets_fit : Fits octets
     octets_fit = let e = ap (λ s. length s.input) s.so_far.after in let h = sound.short in omega arith
 
-    -- nothing is left
+    -- no octets are left
     pub all_walked : rest now ≡ [] → AreValuesTo F held (suc n) octets
     unfolding AreValuesTo
     all_walked none = record {
@@ -64,7 +64,7 @@ module _ {T : Type 0} {F : form.Ghosts T} {held : T → List (List ℕ)} {n : �
     nonempty_now : (v : T) (b : List ℕ) → F.accepts now.rules v b → 0 < length b
     nonempty_now = subst (λ r. (v : T) (b : List ℕ) → F.accepts r v b → 0 < length b) (sym walk_has_rules) nonempty
 
-    -- with the next value
+    -- the values so far and the next value
     pub one_more_walked : {new : ReaderState} → NextChecked F held n now new → WalkedSoFar F held n octets new
     one_more_walked {new} next = record {
       values = s.values ++ next.value ∷ [];
@@ -75,7 +75,7 @@ module _ {T : Type 0} {F : form.Ghosts T} {held : T → List (List ℕ)} {n : �
     pub less_to_walk : {new : ReaderState} → NextChecked F held n now new → length (rest new) < length (rest now)
     less_to_walk {new} next = items_smaller s.so_far nonempty_now some next.decoded
 
-    -- a fault of the next value is one of the octets
+    -- an error of the next value is an error of the octets
     pub fault_of_next : (sound : IsReaderState now) (by_encoding : (v w : T) → F.encoding v ≡ F.encoding w → held v ≡ held w) (kind : ErrorKind) → NextFault F held (AreValuesTo F held n) (AreNot F held n) now.position (rest now) kind → AreNot F held (suc n) octets kind
     fault_of_next sound by_encoding kind next =
         let taken = s.so_far.taken in

@@ -1,4 +1,4 @@
--- The octets that one value holds, each of which is checked.
+-- The octets that a value holds are checked one after another.
 use Rattle.std.proofs.Common.{◌≡◌, ℕ, ◌+◌, ◌<◌, ◌^◌, List, ◌∷◌, ◌++◌, length, take, drop, get_or, Some, None, Ok, sym, ap, ◌∙◌, arith, subst, inr}
 use Rattle.std.specs.List.{All}
 use Rattle.std.specs.Borrow.{Bor}
@@ -16,7 +16,7 @@ use Rattle.der_recursive.specs.Checking.{NextFault, AreNot}
 use Rattle.der_recursive.specs.CheckingNext.{NextChecked}
 use Rattle.der_recursive.proofs.SameValues.{same_result}
 
--- the first of what the next value holds are values to a depth, and the reader stands before the value
+-- the first octets that the next value holds are values to a depth, and the reader is at the start of the value
 pub record HeldSoFar {T : Type 0} (F : form.Ghosts T) (held : T → List (List ℕ)) (n : ℕ) (old now : ReaderState) (index : ℕ) : Type 0 where
   pub same : now ≡ old
   pub few : index < 2 ^ 32
@@ -25,7 +25,7 @@ pub record HeldSoFar {T : Type 0} (F : form.Ghosts T) (held : T → List (List �
 pub none_held : {T : Type 0} (F : form.Ghosts T) (held : T → List (List ℕ)) (n : ℕ) (old now : ReaderState) → now ≡ old → HeldSoFar F held n old now 0
 none_held F held n old now same = record { same = same; few = omega arith; checked = λ v taken parsed. All-nil (AreValuesTo F held n) }
 
--- a reader that goes back before the value stands as it did
+-- a reader that goes back to the start of a value is as it was
 pub rewound : (old now new after : ReaderState) (start taken : ℕ) → now ≡ old → start ≡ old.position → new ≡ after_read now taken → after ≡ after_rewind new start → after ≡ now
 rewound old now new after start taken same at_old read back =
     let at_now : start ≡ now.position = at_old ∙ sym (ap (λ s. s.position) same) in
@@ -35,11 +35,11 @@ module _ {T : Type 0} {F : form.Ghosts T} {held : T → List (List ℕ)} {n : �
   decoded_from_old : {v : T} → Decoded F now new v → Decoded F old new v
   decoded_from_old {v} = subst (λ s. Decoded F s new v) s.same
 
-  -- what the value holds is checked so far
+  -- the octets that the value holds are checked so far
   first_checked : {v : T} → Decoded F now new v → All (AreValuesTo F held n) (take index (held v))
   first_checked {v} told = let from_old = decoded_from_old told in s.checked v from_old.taken from_old.parsed
 
-  -- the value holds no more
+  -- the value holds no more octets
   pub all_held : HeldRead F held index now new None → NextChecked F held n old new
   all_held h =
       let all : take index (held h.value) ≡ held h.value = take_all index (held h.value) h.lends in
@@ -59,7 +59,7 @@ module _ {T : Type 0} {F : form.Ghosts T} {held : T → List (List ℕ)} {n : �
     pub few_more : index + 1 < 2 ^ 32
     few_more = let inside = index_inside in let few = h.few in omega arith
 
-    -- these are checked, too
+    -- the next octets that it holds are checked, too
     pub one_more_held : (by_encoding : (v w : T) → F.encoding v ≡ F.encoding w → held v ≡ held w) (after : ReaderState) → after ≡ now → AreValuesTo F held n octets.now → HeldSoFar F held n old after (index + 1)
     one_more_held by_encoding after back are = record {
       same = back ∙ s.same;
@@ -72,7 +72,7 @@ module _ {T : Type 0} {F : form.Ghosts T} {held : T → List (List ℕ)} {n : �
           subst (λ all. All (AreValuesTo F held n) (take (index + 1) all)) holds more;
     }
 
-    -- these have a fault
+    -- the next octets that it holds have an error
     pub held_fault : (kind : ErrorKind) → old.rules ≡ Der → AreNot F held n octets.now kind → NextFault F held (AreValuesTo F held n) (AreNot F held n) old.position (rest old) kind
     held_fault kind der are_not =
         let from_old = decoded_from_old h.decoded in

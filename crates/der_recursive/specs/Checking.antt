@@ -1,4 +1,4 @@
--- What checking values to a depth answers, and the first fault.
+-- The results of checking values to a depth, and the first error.
 use Rattle.std.specs.Prelude.{◌≡◌, ℕ, zero, suc, ◌<◌, ◌≤◌, ◌^◌, List, ◌∷◌, ◌++◌, length, ◌⊎◌, Result, Ok, Err}
 use Rattle.std.specs.List.{All}
 use Rattle.der_tlv.specs.declared.error.Error.{Error}
@@ -9,7 +9,7 @@ use Rattle.der_elem.specs.declared.form.Form as form
 use Rattle.der_elem.specs.Items.{AcceptsItems}
 use Rattle.der_recursive.specs.Depth.{AreValuesTo}
 
--- of lists of octets the first are as wanted, and the next is faulty
+-- in a list of octets, the first are as wanted, and the next is faulty
 pub record FirstFaulty (Wanted Faulty : List ℕ → Type 0) (all : List (List ℕ)) : Type 0 where
   pub before : List (List ℕ)
   pub octets : List ℕ
@@ -23,14 +23,14 @@ pub record TooMany (octets : List ℕ) (kind : ErrorKind) : Type 0 where
   pub long : 2 ^ 32 ≤ length octets
   pub kind_is : kind ≡ Overflow
 
--- octets where no value may stand (10)
+-- octets where no value is allowed (10)
 pub record TooDeep (octets : List ℕ) (kind : ErrorKind) : Type 0 where
   pub fits : length octets < 2 ^ 32
   pub some : 0 < length octets
   pub kind_is : kind ≡ Overlength
 
 module _ {T : Type 0} (F : form.Ghosts T) (held : T → List (List ℕ)) where
-  -- a value stands at the front, and of the octets that it holds some are faulty
+  -- a value is at the front, and it holds faulty octets
   pub record FaultWithin (Wanted Faulty : List ℕ → Type 0) (octets : List ℕ) : Type 0 where
     pub value : T
     pub part : List ℕ
@@ -39,11 +39,11 @@ module _ {T : Type 0} (F : form.Ghosts T) (held : T → List (List ℕ)) where
     pub accepted : F.accepts Der value part
     pub holds : FirstFaulty Wanted Faulty (held value)
 
-  -- at a position no value is parsed, for this reason, or one that holds faulty octets stands there
+  -- at a position no value is parsed, for this reason, or the value there holds faulty octets
   abbrev pub NextFault : (List ℕ → Type 0) → (List ℕ → ErrorKind → Type 0) → ℕ → List ℕ → ErrorKind → Type 0
   NextFault Wanted Faulty p octets kind = (F.parse Der p octets ≡ Err kind) ⊎ FaultWithin Wanted (λ octets. Faulty octets kind) octets
 
-  -- values that hold what is wanted stand first, and then comes a fault
+  -- values that hold what is wanted come first, and then an error
   pub record FaultBehind (Wanted : List ℕ → Type 0) (Faulty : List ℕ → ErrorKind → Type 0) (octets : List ℕ) (kind : ErrorKind) : Type 0 where
     pub values : List T
     pub front : List ℕ
@@ -55,17 +55,17 @@ module _ {T : Type 0} (F : form.Ghosts T) (held : T → List (List ℕ)) where
     pub within : All (λ v. All Wanted (held v)) values
     pub next : NextFault Wanted Faulty (length front) left kind
 
-  -- The first fault of octets that are to be values to a depth. A value comes first, then what it holds, then the next value.
+  -- The first error in octets that must be values to a depth. A value comes first, then the octets that it holds, then the next value.
   unfoldable pub IsFirstFault : ℕ → List ℕ → ErrorKind → Type 0
   IsFirstFault zero octets kind = TooMany octets kind ⊎ TooDeep octets kind
   IsFirstFault (suc n) octets kind = TooMany octets kind ⊎ FaultBehind (AreValuesTo F held n) (IsFirstFault n) octets kind
 
-  -- octets are not values to a depth, and this is their first fault
+  -- the octets are not values to a depth, and this is their first error
   pub record AreNot (depth : ℕ) (octets : List ℕ) (kind : ErrorKind) : Type 0 where
     pub fault : IsFirstFault depth octets kind
     pub nothing : AreValuesTo F held depth octets → ⊥
 
-  -- what checking octets to a depth answers
+  -- the results of checking octets to a depth
   abbrev pub ChecksDepth : ℕ → List ℕ → Result (Unit {0}) Error → Type 0
   ChecksDepth depth octets (Ok done) = AreValuesTo F held depth octets
   ChecksDepth depth octets (Err e) = AreNot depth octets e.kind

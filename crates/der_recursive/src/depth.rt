@@ -12,18 +12,18 @@ use crate::recursive::Recursive;
 use der_tlv::{Error, ErrorKind, Reader, SliceReader};
 use std::alloc::Global;
 
-/// Checks that octets are values of a type that reaches itself, one after another, to a depth: a value
-/// in the octets stands at the depth 1, and a value in what that one holds at the depth 2.
+/// Checks that octets are values of a recursive type, one after another, to a depth: a value in
+/// the octets is at depth 1, and a value in the octets that it holds is at depth 2.
 ///
-/// It takes no memory, and two frames of the stack for each level that the octets reach. So the depth
-/// is a number of levels that the stack has room for, as 64.
+/// It takes no memory, and two frames of the stack for each level that the octets reach. So the
+/// depth must be a number of levels for which the stack is large enough, such as 64.
 ///
 /// # Errors
-/// The first fault in reading order: a value, then what it holds, then the next value. Its position is
-/// in these octets: of a fault in what a value holds it is behind that value.
-/// `ErrorKind::Overflow` (9) for more than 4294967295 octets; `ErrorKind::Overlength` (10) for octets
-/// below the depth, which are not read; the faults of a value, of which the numbers in
-/// `ErrorKind::Incomplete` (2) count from the beginning of its component.
+/// The first error in reading order: a value, then the octets that it holds, then the next value.
+/// Its position is in these octets; for an error in the octets that a value holds, it is after
+/// that value. `ErrorKind::Overflow` (9) for more than 4294967295 octets; `ErrorKind::Overlength`
+/// (10) for octets below the depth, which are not read; the errors of a value, where the numbers
+/// in `ErrorKind::Incomplete` (2) count from the beginning of its component.
 #[cycle(depth)]
 pub fn check_depth<T: Recursive>(alloc: Global, octets: &[u8], depth: u32) -> Result<(), Error>
     ensures { ChecksDepth T.Form T.held depth octets.now result }
@@ -41,8 +41,8 @@ pub fn check_depth<T: Recursive>(alloc: Global, octets: &[u8], depth: u32) -> Re
     Ok(())
 }
 
-/// Checks that a value stands at the reader's position, and that what it holds are values to a depth.
-/// The value is read once more for each component that leads back.
+/// Checks that a value is at the position of the reader, and that the octets that it holds are
+/// values to a depth. The value is read once more for each recursive component.
 #[cycle(depth)]
 fn check_next<T: Recursive>(
     alloc: Global,
@@ -69,7 +69,7 @@ fn check_next<T: Recursive>(
     }
 }
 
-/// Checks that a reader has no octets left, where no value may stand.
+/// Checks that a reader has no octets left where no value is allowed.
 fn none_left(reader: &mut SliceReader<'_>) -> Result<(), Error>
     ensures ok { IsOk result ↔ (rest (slice_reader_state reader.old) ≡ []) }
     ensures err { IfErr result (λ e. e.kind ≡ Overlength) }

@@ -1,4 +1,4 @@
-//! Values of a type that reaches itself, which are checked down to a depth.
+//! Values of a recursive type, which are checked to a depth.
 #![tactic(auto)]
 
 mod depth;

@@ -1,4 +1,4 @@
-//! Types that reach themselves.
+//! Recursive types.
 
 ghost use Rattle.std.specs.Prelude.{◌≡◌, ℕ, List, false};
 ghost use Rattle.der_tlv.specs.Views.{slice_reader_state};
@@ -8,17 +8,18 @@ use der_elem::Choice;
 use der_tlv::{Error, SliceReader};
 use std::alloc::Global;
 
-/// A type that reaches itself: its values hold octets of further values of the type, which are not read
+/// A recursive type: its values hold octets of further values of the type, which are not read
 /// with them.
 pub trait Recursive: Choice {
-    // the octets of each component that leads back to the type, in the order of the components
+    // the octets of each recursive component, in the order of the components
     ghost held: { Self → List (List ℕ) };
 
-    /// Reads the value whose encoding stands at the reader's position, and lends the octets at this
-    /// place among those that it holds. There are none behind the last.
+    /// Reads the value at the position of the reader, and returns the octets at this index among
+    /// those that it holds, or none after the last.
     ///
     /// # Errors
-    /// `ErrorKind::Failed` (17) on a failed reader; the first fault of the octets, in reading order.
+    /// `ErrorKind::Failed` (17) on a failed reader; the first error in the octets, in reading
+    /// order.
     fn read_held<'b>(
         alloc: Global,
         reader: &mut SliceReader<'b>,

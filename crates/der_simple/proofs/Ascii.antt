@@ -1,4 +1,4 @@
--- The characters are of ASCII, so that octets that are characters are UTF-8.
+-- The characters are ASCII, so octets that are characters are UTF-8.
 use Rattle.std.proofs.Common.{◌≡◌, ℕ, ◌<◌, ◌==◌, List, [], ◌∷◌, Bool, true, false, arith, if◌then◌else◌, lit<, suc, zero}
 use Rattle.std.specs.Str.{IsUtf8, IsAscii}
 use Rattle.std.proofs.lemmas.Str.{IsUtf8-from_ascii}

@@ -1,4 +1,4 @@
--- Octets that are recognised as arcs are those of numbers, one after another (X.690 8.20.2).
+-- Octets that are recognised as arcs are the octets of numbers, one after another (X.690 8.20.2).
 use Rattle.std.proofs.Common.{◌≡◌, ℕ, ◌+◌, ◌-◌, ◌*◌, ◌/◌, ◌%◌, ◌<◌, ◌≤◌, ◌==◌, nat_le, nat_lt, not, Bool, true, false, List, [], ◌∷◌, ◌++◌, length, get_or, refl, sym, ap, ◌∙◌, arith, append_assoc, suc, zero}
 use Rattle.std.specs.List.{flat_map}
 use Rattle.std.specs.Int.Digits.{digits_of}
@@ -10,7 +10,7 @@ use Rattle.der_tlv.specs.Identifier.{number_octets}
 use Rattle.der_tlv.specs.TagDigits.{mark_digits, leading_octets}
 use Rattle.der_simple.specs.Arcs.{are_arcs_after, are_arcs, IsArcs}
 
--- ---- the octets of a number before its last
+-- ---- the octets of a number without its last
 
 leading_step : (n : ℕ) → 0 < n → leading_octets n ≡ leading_octets (n / 128) ++ ((128 + n % 128) ∷ [])
 leading_step n h = ap mark_digits (digits_of_step 128 n (omega arith) h) ∙ map-append (λ d. 128 + d) (digits_of 128 (n / 128)) (n % 128 ∷ [])
@@ -31,14 +31,14 @@ number_last n x h =
 
 -- ---- one octet of an arc
 
--- whether an arc has begun, of which these are the digits so far
+-- whether an arc has begun, with these digits so far
 abbrev has_begun : ℕ → Bool
 has_begun n = nat_lt 0 n
 
 begun : (n : ℕ) → 0 < n → has_begun n ≡ true
 begun n h = grind (arith, nat_tests)
 
--- an octet with bit 8 set, other than a first 80, and one without it
+-- an octet with bit 8 set, other than a first 80, continues an arc; one without it ends the arc
 more_octet : (n x : ℕ) (xs : List ℕ) → 128 ≤ x → 0 < n * 128 + (x - 128) → are_arcs_after (has_begun n) (x ∷ xs) ≡ are_arcs_after true xs
 unfolding are_arcs_after
 more_octet zero x xs low some =
@@ -65,7 +65,7 @@ last_octet (suc n) x xs h =
 abbrev Joins : ℕ → List ℕ → Type 0
 Joins n octets = (arcs : List ℕ) × (leading_octets n ++ octets ≡ flat_map number_octets arcs)
 
--- each is an octet
+-- each number is an octet
 abbrev AreOctets : List ℕ → Type 0
 AreOctets octets = (i : ℕ) → i < length octets → get_or octets i 0 < 256
 
@@ -133,7 +133,7 @@ some_octets : (v : ℕ) (ys : List ℕ) → 0 < length (number_octets v ++ ys)
 unfolding number_octets
 some_octets v ys = omega (arith, length-append (number_octets v) ys, length-append (leading_octets (v / 128)) (v % 128 ∷ []))
 
--- ---- both
+-- ---- both directions
 
 pub arcs_of_recognised : (octets : List ℕ) → AreOctets octets → are_arcs octets ≡ true → IsArcs octets
 arcs_of_recognised octets a e =

@@ -16,23 +16,23 @@ is_numeric octet = within 48 57 octet || octet == 32
 abbrev pub is_visible : ℕ → Bool
 is_visible octet = within 32 126 octet
 
--- whether an octet is a character of the type with a universal number: 18 is NumericString; every other is VisibleString
+-- whether an octet is a character of the type with a universal number: 18 is NumericString, and any other is VisibleString
 abbrev pub has_character : ℕ → ℕ → Bool
 has_character number octet = if number == 18 then is_numeric octet else is_visible octet
 
--- octets that are such characters
+-- all octets are characters of the type
 abbrev pub are_simple_characters : ℕ → List ℕ → Bool
 are_simple_characters number octets = list_all (has_character number) octets
 
--- the tag of a universal number: 18, and every other is VisibleString's (X.680 8.4)
+-- the tag of a universal number: 18 is NumericString, and any other is VisibleString (X.680 8.4)
 abbrev pub string_tag : ℕ → Tag
 string_tag number = if number == 18 then NumericString else VisibleString
 
--- octets that are characters are read as they are, and else refused (13)
+-- characters are read unchanged; other octets are refused (13)
 abbrev pub parse_simple_string : ℕ → ContentsParse
 parse_simple_string number rules p octets = if are_simple_characters number octets then Ok octets else Err (Value (string_tag number))
 
--- a string that keeps these octets, or (13) where they are no characters, or more than a length can count
+-- a string that keeps these octets, or an error (13) if one is no character, or if they are more than a length can count
 abbrev pub KeepsString : {T : Type 0} → (T → List ℕ) → ℕ → List ℕ → Result T Error → Type 0
 KeepsString contents number octets (Ok v) = (contents v ≡ octets) × (are_simple_characters number octets ≡ true) × (length octets < 2 ^ 32)
 KeepsString contents number octets (Err e) = (e.kind ≡ Value (string_tag number)) × ((are_simple_characters number octets ≡ false) ⊎ (2 ^ 32 ≤ length octets))

@@ -38,7 +38,7 @@ is_false : (b : Bool) → (b ≡ true → ⊥) → b ≡ false
 is_false true h = absurd (h refl)
 is_false false h = refl
 
--- a list is what stands before its last item, and that item
+-- a list is its items before the last, and the last item
 last_apart : (xs : List ℕ) → 0 < length xs → xs ≡ take (length xs - 1) xs ++ get_or xs (length xs - 1) 0 ∷ []
 last_apart xs some =
     sym (take_all (length xs - 1 + 1) xs (omega arith)) ∙ take_more xs (length xs - 1) 0 (omega arith)
@@ -54,14 +54,14 @@ last_pushed xs y = get_or_push xs y 0 (length (xs ++ y ∷ []) - 1) (sym (length
 
 -- ---- a fraction after a full stop
 
--- octets that are recognised as one are a full stop and the octets after it
+-- octets that are recognised as a fraction after a full stop are a full stop and the octets after it
 after_stop_of : (octets : List ℕ) → is_after_stop octets ≡ true → octets ≡ after_stop (drop 1 octets)
 after_stop_of [] e = refl
 after_stop_of (stop ∷ []) e = let no : false ≡ true = (and_parts (stop == 46) false e).1 in cc
 after_stop_of (stop ∷ digit ∷ digits) e =
     let first : stop ≡ 46 = eqb-true stop 46 (and_parts (stop == 46) _ e).0 in ap (λ (n : ℕ). n ∷ digit ∷ digits) first
 
--- and of these a fraction
+-- the octets after the full stop are a fraction
 fraction_after_stop : (octets : List ℕ) → is_after_stop octets ≡ true → is_fraction (drop 1 octets) ≡ true
 fraction_after_stop [] e = refl
 fraction_after_stop (stop ∷ digits) e = (and_parts (nat_lt 0 (length digits)) (is_fraction digits) (and_parts (stop == 46) _ e).1).1
@@ -81,13 +81,13 @@ second_and_z t = refl
 length_second : (t : GeneralizedTime) → length (take 14 (generalized_time_contents t)) ≡ 14
 length_second t = length-take-le 14 (generalized_time_contents t) (omega (arith, length_generalized (fields_of t.date_time)))
 
--- so its first 14 octets are recognised as a second
+-- the first 14 octets of a GeneralizedTime are recognised as a second
 is_second_of : (t : GeneralizedTime) → is_second (take 14 (generalized_time_contents t)) ≡ true
 is_second_of t = ap is_ok (ap generalized_or_fault (second_and_z t) ∙ generalized_of t.date_time)
 
--- ---- both
+-- ---- the whole
 
--- what recognising octets finds
+-- the parts of octets that are recognised
 record Recognised (octets : List ℕ) : Type 0 where
   long : 14 < length octets
   z : get_or octets (length octets - 1) 0 ≡ 90
@@ -109,7 +109,7 @@ recognised_of octets h =
     let z : (get_or octets (length octets - 1) 0 == 90) ≡ true = ap (λ (n : ℕ). n == 90) h.z in
     both _ _ long (both _ _ z (both _ _ h.second h.rest))
 
--- what is found, test by test
+-- the parts, test by test
 pub not_long : (octets : List ℕ) → length octets < 15 → is_fractional_time octets ≡ false
 unfolding is_fractional_time
 not_long octets h =
@@ -122,11 +122,11 @@ pub no_second : (octets : List ℕ) → is_second (take 14 octets) ≡ false →
 no_second octets h =
     is_false (is_fractional_time octets) (λ e. let yes : is_second (take 14 octets) ≡ true = (recognised octets e).second in let no : true ≡ false = sym yes ∙ h in cc)
 
--- octets whose contents a GeneralizedTime has
+-- the digits of the contents octets of a GeneralizedTime are a second
 second_read : (t : GeneralizedTime) (digits : List ℕ) → generalized_time_contents t ≡ digits ++ 90 ∷ [] → is_second digits ≡ true
 second_read t digits own = ap is_ok (ap generalized_or_fault (sym own) ∙ generalized_of t.date_time)
 
--- with a second and Z at the end, what stands between them decides
+-- in octets with a second at the front and Z at the end, the octets between them decide
 pub rest_decides : (t : GeneralizedTime) (octets : List ℕ) → 14 < length octets → get_or octets (length octets - 1) 0 ≡ 90 → generalized_time_contents t ≡ take 14 octets ++ 90 ∷ [] → is_fractional_time octets ≡ is_after_stop (after_second octets)
 rest_decides t octets long z own = at (is_after_stop (after_second octets)) refl
   where
@@ -134,14 +134,14 @@ rest_decides t octets long z own = at (is_after_stop (after_second octets)) refl
     at true e = recognised_of octets (record { long = long; z = z; second = second_read t (take 14 octets) own; rest = e })
     at false e = is_false (is_fractional_time octets) (λ f. let yes : is_after_stop (after_second octets) ≡ true = (recognised octets f).rest in let no : true ≡ false = sym yes ∙ e in cc)
 
--- octets that are refused after the tag of a GeneralizedTime are no second
+-- if digits and Z are refused as a GeneralizedTime, the digits are no second
 pub refused_second : (tag : Tag) (octets digits : List ℕ) (kind : ErrorKind) → tag ≡ tags.GeneralizedTime → octets ≡ digits ++ 90 ∷ [] → parse_as (λ u. same_identifier u tags.GeneralizedTime) parse_generalized Der tag octets ≡ Err kind → is_second digits ≡ false
 refused_second tag octets digits kind own same fault =
     let its : same_identifier tag tags.GeneralizedTime ≡ true = ap (λ (u : Tag). same_identifier u tags.GeneralizedTime) own ∙ same_identifier-same tags.GeneralizedTime in
     let read : generalized_or_fault octets ≡ Err kind = rw its at fault in
     ap is_ok (ap generalized_or_fault (sym same) ∙ read)
 
--- octets that are recognised are the second and the fraction that are read of them
+-- octets that are recognised are the second and the fraction that are read from them
 pub put_together : (t : GeneralizedTime) (octets : List ℕ) → is_fractional_time octets ≡ true → generalized_time_contents t ≡ take 14 octets ++ 90 ∷ [] → octets ≡ time_octets t (fraction_of octets)
 put_together t octets e own =
     let found = recognised octets e in
@@ -161,7 +161,7 @@ is_long octets e = (recognised octets e).long
 fraction_is : (octets : List ℕ) → is_fractional_time octets ≡ true → is_fraction (fraction_of octets) ≡ true
 fraction_is octets e = fraction_after_stop (after_second octets) (recognised octets e).rest
 
--- the same of all octets after the first of those between the second and Z
+-- the octets between the second and Z, without the first, are a fraction
 pub digits_are : (octets : List ℕ) → is_fractional_time octets ≡ true → is_fraction (take (length (after_second octets) - 1) (drop 1 (after_second octets))) ≡ true
 digits_are octets e =
     let all : take (length (after_second octets) - 1) (drop 1 (after_second octets)) ≡ fraction_of octets = take_all (length (after_second octets) - 1) (fraction_of octets) (omega (arith, length-drop 1 (after_second octets))) in
@@ -185,7 +185,7 @@ is_fractional_time_of t digits e =
     ap is_fractional_time (sym (append_assoc (take 14 (generalized_time_contents t)) (after_stop digits) (90 ∷ [])))
     ∙ recognised_parts (take 14 (generalized_time_contents t)) (after_stop digits) (length_second t) (is_second_of t) (is_after_stop_of digits e)
 
--- what the definition says of octets, and what recognising them finds
+-- octets are recognised if and only if they satisfy the definition
 pub recognised_time : (octets : List ℕ) → IsFractionalTime octets → is_fractional_time octets ≡ true
 recognised_time octets h = ap is_fractional_time h.whole ∙ is_fractional_time_of h.second h.digits h.fraction
 
@@ -195,10 +195,10 @@ time_of_recognised octets e second =
 
 -- ---- reading
 
--- such octets are read as they are
+-- octets that are recognised are parsed unchanged
 pub parse_of_fractional_time : (rules : EncodingRules) (p : ℕ) (octets c : List ℕ) → is_fractional_time octets ≡ true → c ≡ octets → parse_fractional_time rules p c ≡ Ok octets
 parse_of_fractional_time rules p octets c all e = ap (parse_fractional_time rules p) e ∙ rw all refl
 
--- the faults are of the octets
+-- each error is an error in the octets
 pub fractional_time_of_octets : (rules : EncodingRules) (p : ℕ) (octets : List ℕ) → IsOfOctets (parse_fractional_time rules p octets)
 fractional_time_of_octets rules p octets = of_octets_either (is_fractional_time octets) (Ok octets) (Err (kinds.Value tags.GeneralizedTime)) tt refl

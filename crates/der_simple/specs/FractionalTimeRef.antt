@@ -1,4 +1,4 @@
--- What a FractionalTimeRef shows.
+-- The octets of a FractionalTimeRef.
 use Rattle.std.specs.Prelude.{ℕ, List}
 use Rattle.der_simple.specs.declared.fractional_time.FractionalTimeRef.{FractionalTimeRef}
 

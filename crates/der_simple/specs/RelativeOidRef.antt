@@ -1,4 +1,4 @@
--- What a RelativeOidRef shows.
+-- The octets of a RelativeOidRef.
 use Rattle.std.specs.Prelude.{ℕ, List}
 use Rattle.der_simple.specs.declared.relative_oid.RelativeOidRef.{RelativeOidRef}
 

@@ -1,4 +1,4 @@
--- What a SimpleStringRef shows.
+-- The octets of a SimpleStringRef.
 use Rattle.std.specs.Prelude.{ℕ, List}
 use Rattle.der_simple.specs.declared.string_ref.SimpleStringRef.{SimpleStringRef}
 

@@ -7,7 +7,7 @@ ghost use Rattle.der_simple.specs.Characters.{has_character, are_simple_characte
 use der_tlv::{ErrorKind, Tag};
 use std::str;
 
-/// Whether an octet is a character of the type with this universal number.
+/// Returns whether an octet is a character of the type with this universal number.
 #[inline(always)]
 fn has_character(number: u8, octet: u8) -> bool
     ensures { result ≡ has_character number octet }
@@ -19,14 +19,14 @@ fn has_character(number: u8, octet: u8) -> bool
     }
 }
 
-/// Whether all octets are characters of the type with this universal number.
+/// Returns whether all octets are characters of the type with this universal number.
 pub fn are_characters(number: u8, octets: &[u8]) -> bool
     ensures { result ≡ are_simple_characters number octets.now }
 {
     octets.iter().all(|octet| has_character(number, *octet))
 }
 
-/// The text that octets are.
+/// Returns the octets as text.
 ///
 /// # Errors
 /// `ErrorKind::Value` (13) for an octet that is no character of the type with this universal
@@ -40,11 +40,11 @@ pub fn text_of(number: u8, octets: &[u8]) -> Result<&str, ErrorKind>
     if !are_characters(number, octets) {
         return Err(string_tag(number).value_error());
     }
-    // This is called only with UTF-8, which is proved: the characters are of ASCII.
+    // It is proved that the octets are UTF-8, because the characters are ASCII.
     Ok(unsafe { str::from_utf8_unchecked(octets) })
 }
 
-/// The tag with this universal number.
+/// Returns the tag with this universal number.
 pub fn string_tag(number: u8) -> Tag
     ensures { result ≡ string_tag number }
 {

@@ -1,9 +1,9 @@
 //! GeneralizedTime with a fraction of a second, borrowed (X.680 46, X.690 11.7).
 //!
-//! The contents octets are those of a GeneralizedTime, `YYYYMMDDHHMMSSZ`; before the Z may stand a
-//! full stop and digits, the last of which is not 0. A quarter of a second after
-//! 1991-05-06T23:45:40Z is encoded as 18 12 and the octets of `19910506234540.25Z`. Reading refuses
-//! other octets, and years before 1970 (`ErrorKind::Value`, 13).
+//! The contents octets are those of a GeneralizedTime, `YYYYMMDDHHMMSSZ`; before the Z there may
+//! be a full stop and digits, the last of which is not 0. A quarter of a second after
+//! 1991-05-06T23:45:40Z is encoded as 18 12 and the octets of `19910506234540.25Z`. Reading
+//! refuses other octets, and years before 1970 (`ErrorKind::Value`, 13).
 
 ghost use Rattle.std.specs.Prelude.{◌≡◌, ◌==◌, ◌-◌, ◌^◌, ◌<◌, ◌∷◌, ◌++◌, [], MatchOption, IsTrue, length, slice_index, true, refl, false};
 ghost use Rattle.std.specs.Cmp.Lexicographic.{bytes_decides};
@@ -26,11 +26,12 @@ use der_time::GeneralizedTime;
 use der_tlv::{BackWriter, Error, Header, Length, Reader, Source, Tag, Writer};
 use std::alloc::Global;
 
-/// The octets of a GeneralizedTime that may have a fraction of a second, borrowed: at most 4294967295
-/// of them.
+/// The octets of a GeneralizedTime that may have a fraction of a second, borrowed: at most
+/// 4294967295 octets.
 ///
-/// Their order is the lexicographic one of the contents octets, which is not that of time where the
-/// lengths differ: `19910506234540.5Z` is before `19910506234540Z`, since the full stop is before Z.
+/// The order is the lexicographic order of the contents octets. For different lengths it is not
+/// the order of time: `19910506234540.5Z` is before `19910506234540Z`, because the full stop is
+/// before Z.
 #[derive(Clone, Copy, Debug, PartialEq, Eq, PartialOrd, Ord, Hash)]
 pub struct FractionalTimeRef<'a> {
     octets: &'a [u8],
@@ -38,14 +39,14 @@ pub struct FractionalTimeRef<'a> {
     ghost time: { spec.is_fractional_time octets.now ≡ true },
 }
 
-/// Whether an octet is a digit.
+/// Returns whether an octet is a digit.
 fn is_digit(octet: u8) -> bool
     ensures { result ≡ decimal.is_digit octet }
 {
     octet >= b'0' && octet <= b'9'
 }
 
-/// Whether the last digit is 0.
+/// Returns whether the last digit is 0.
 fn ends_with_zero(digits: &[u8]) -> bool
     ensures { result ≡ (slice_index digits.now (length digits.now - 1) == 48) }
 {
@@ -55,21 +56,21 @@ fn ends_with_zero(digits: &[u8]) -> bool
     }
 }
 
-/// Whether all of these are digits.
+/// Returns whether all octets are digits.
 fn are_digits(octets: &[u8]) -> bool
     ensures { result ≡ list_all decimal.is_digit octets.now }
 {
     octets.iter().all(|octet| is_digit(*octet))
 }
 
-/// Whether these are digits of a fraction: none, or some of which the last is not 0.
+/// Returns whether octets are digits of a fraction: none, or some, the last of which is not 0.
 fn is_fraction(digits: &[u8]) -> bool
     ensures { result ≡ spec.is_fraction digits.now }
 {
     are_digits(digits) && !ends_with_zero(digits)
 }
 
-/// Whether these are a full stop and a fraction, or none.
+/// Returns whether octets are a full stop and a fraction, or no octets.
 fn is_after_stop(octets: &[u8]) -> bool
     ensures { result ≡ spec.is_after_stop octets.now }
 {
@@ -80,7 +81,7 @@ fn is_after_stop(octets: &[u8]) -> bool
     }
 }
 
-/// The second that 14 digits are.
+/// Returns the second of 14 digits.
 fn second_of(digits: &[u8]) -> Option<GeneralizedTime>
     requires { length digits.now ≡ 14 }
     ensures { MatchOption result (spec.is_second digits.now ≡ false) (λ t.
@@ -97,7 +98,7 @@ fn second_of(digits: &[u8]) -> Option<GeneralizedTime>
     }
 }
 
-/// Whether octets are a second with a fraction.
+/// Returns whether octets are a second with a fraction.
 pub(crate) fn is_fractional_time(octets: &[u8]) -> bool
     ensures value { result ≡ spec.is_fractional_time octets.now }
     ensures second { IsTrue result → HasSecond octets.now }
@@ -117,10 +118,11 @@ pub(crate) fn is_fractional_time(octets: &[u8]) -> bool
 impl<'a> FractionalTimeRef<'a> {
     ghost use Rattle.der_simple.specs.FractionalTimeRef.{octets_of};
 
-    /// A time with these contents octets.
+    /// Makes a time with these contents octets.
     ///
     /// # Errors
-    /// `ErrorKind::Value` (13) for octets that are no such time, and for more than 4294967295 of them.
+    /// `ErrorKind::Value` (13) for octets that are no such time, and for more than 4294967295
+    /// octets.
     pub fn from_bytes(octets: &'a [u8]) -> Result<FractionalTimeRef<'a>, Error>
         ensures { KeepsTime octets_of octets.now result }
     {
@@ -133,14 +135,14 @@ impl<'a> FractionalTimeRef<'a> {
         }
     }
 
-    /// The contents octets.
+    /// Returns the contents octets.
     pub fn as_bytes(self) -> &'a [u8]
         ensures { result.now ≡ octets_of self.entry }
     {
         self.octets
     }
 
-    /// The time without its fraction.
+    /// Returns the time without its fraction.
     pub fn seconds(self) -> GeneralizedTime
         ensures { octets_of self.entry ≡ time_octets result (fraction_of (octets_of self.entry)) }
     {
@@ -150,7 +152,8 @@ impl<'a> FractionalTimeRef<'a> {
         }
     }
 
-    /// The digits of the fraction: `25` for a quarter of a second, none for a whole second.
+    /// Returns the digits of the fraction: `25` for a quarter of a second, none for a whole
+    /// second.
     pub fn fraction(self) -> &'a [u8]
         ensures digits { result.now ≡ fraction_of (octets_of self.entry) }
         ensures fraction { spec.is_fraction result.now ≡ true }

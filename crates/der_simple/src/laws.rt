@@ -10,7 +10,7 @@ use crate::{NumericStringRef, RelativeOidRef, VisibleStringRef};
 use der_elem::FixedTag;
 use der_tlv::Tag;
 
-/// The tags of the types (X.680 8.4), in the order of their names below.
+/// Returns the tags of the types (X.680 8.4), in the order of their names below.
 pub fn universal_tags() -> [Tag; 3]
     ensures { result ≡ tags.NumericString ∷ tags.VisibleString ∷ tags.RelativeOid ∷ [] }
 {
@@ -21,14 +21,14 @@ pub fn universal_tags() -> [Tag; 3]
     ]
 }
 
-/// The octets that are read as a RELATIVE-OID are those of one number or more, one after another, each
-/// in base 128 with the fewest octets (X.690 8.20.2).
+/// Proves that the octets that are read as a RELATIVE-OID are those of one or more numbers, one
+/// after another, each in base 128 with the fewest octets (X.690 8.20.2).
 pub fn octets_of_arcs(octets: &[u8])
     ensures { IsTrue (are_arcs octets.now) ↔ IsArcs octets.now }
 {}
 
-/// The octets that are read as a time with a fraction are those of X.690 11.7: a second, a fraction
-/// after a full stop or none, and Z.
+/// Proves that the octets that are read as a time with a fraction are those of X.690 11.7: a
+/// second, optionally a full stop and a fraction, and Z.
 pub fn octets_of_times(octets: &[u8])
     ensures { IsTrue (is_fractional_time octets.now) ↔ IsFractionalTime octets.now }
 {

@@ -1,5 +1,6 @@
-//! Simple types of X.680 that the crate `der` has no type of: NumericString and VisibleString
-//! (X.680 41), RELATIVE-OID (X.680 32), and GeneralizedTime with a fraction of a second (X.680 46).
+//! Simple types of X.680 that the crate `der` does not have: NumericString and VisibleString
+//! (X.680 41), RELATIVE-OID (X.680 32), and GeneralizedTime with a fraction of a second (X.680
+//! 46).
 //!
 //! ```rust
 //! match NumericStringRef::new("12 34".as_bytes()) {
@@ -24,7 +25,7 @@ pub use relative_oid::RelativeOidRef;
 pub use string_ref::SimpleStringRef;
 pub use tags::{RelativeOidTag, SimpleStringTag};
 
-/// NumericString, borrowed: digits and space (X.680 41.2).
+/// NumericString, borrowed: digits and spaces (X.680 41.2).
 pub type NumericStringRef<'a> = SimpleStringRef<'a, 18>;
 
 /// VisibleString (ISO646String), borrowed: the octets 20 to 7E, which are the graphic characters of

@@ -1,9 +1,9 @@
 //! RELATIVE-OID, borrowed (X.680 32, X.690 8.20).
 //!
-//! The contents octets are the arcs, one after another: each is a number in base 128, highest digit
-//! first, with bit 8 set in all its octets but the last. The arcs 8571 and 3 are encoded as 0D 03 C2
-//! 7B 03. Reading refuses no octets, an arc with a leading 80, and an arc without its last octet
-//! (`ErrorKind::Value`, 13).
+//! The contents octets are the arcs, one after another: each is a number in base 128, most
+//! significant digit first, with bit 8 set in all its octets except the last. The arcs 8571 and 3
+//! are encoded as 0D 03 C2 7B 03. Reading refuses empty contents octets, an arc with a leading
+//! 80, and an arc without its last octet (`ErrorKind::Value`, 13).
 
 ghost use Rattle.std.specs.Prelude.{◌≡◌, ◌^◌, ◌<◌, length, true, refl, false};
 ghost use Rattle.std.specs.Cmp.Lexicographic.{bytes_decides};
@@ -20,8 +20,8 @@ use der_modules::Member;
 use der_tlv::{BackWriter, Error, Header, Length, Reader, Source, Tag, Writer};
 use std::alloc::Global;
 
-/// The octets of a RELATIVE-OID, borrowed: at most 4294967295 of them. Their order is the
-/// lexicographic one.
+/// The octets of a RELATIVE-OID, borrowed: at most 4294967295 octets. Their order is
+/// lexicographic.
 #[derive(Clone, Copy, Debug, PartialEq, Eq, PartialOrd, Ord, Hash)]
 pub struct RelativeOidRef<'a> {
     octets: &'a [u8],
@@ -29,7 +29,7 @@ pub struct RelativeOidRef<'a> {
     ghost arcs: { are_arcs octets.now ≡ true },
 }
 
-/// Whether octets are arcs, each with the fewest octets.
+/// Returns whether octets are arcs, each with the fewest octets.
 #[tactic(auto, unfolding(crate::specs::Arcs::are_arcs_after))]
 fn are_arcs_alone(octets: &[u8]) -> bool
     ensures { result ≡ are_arcs_after false octets.now }
@@ -46,7 +46,7 @@ fn are_arcs_alone(octets: &[u8]) -> bool
     !has_begun
 }
 
-/// Whether octets are one arc or more, each with the fewest octets.
+/// Returns whether octets are one or more arcs, each with the fewest octets.
 fn are_arcs(octets: &[u8]) -> bool
     ensures { result ≡ are_arcs octets.now }
 {
@@ -56,10 +56,10 @@ fn are_arcs(octets: &[u8]) -> bool
 impl<'a> RelativeOidRef<'a> {
     ghost use Rattle.der_simple.specs.RelativeOidRef.{octets_of};
 
-    /// An identifier of these contents octets.
+    /// Makes an identifier with these contents octets.
     ///
     /// # Errors
-    /// `ErrorKind::Value` (13) for octets that are no arcs, and for more than 4294967295 of them.
+    /// `ErrorKind::Value` (13) for octets that are no arcs, and for more than 4294967295 octets.
     pub fn from_bytes(octets: &'a [u8]) -> Result<RelativeOidRef<'a>, Error>
         ensures { KeepsArcs octets_of octets.now result }
     {
@@ -72,7 +72,7 @@ impl<'a> RelativeOidRef<'a> {
         }
     }
 
-    /// The contents octets.
+    /// Returns the contents octets.
     pub fn as_bytes(self) -> &'a [u8]
         ensures { result.now ≡ octets_of self.entry }
     {

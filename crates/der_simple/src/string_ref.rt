@@ -21,7 +21,7 @@ use der_tlv::{BackWriter, Error, Header, Length, Reader, Source, Writer};
 use std::alloc::Global;
 use std::fmt;
 
-/// Characters of the type with a universal number, borrowed: at most 4294967295 of them.
+/// Characters of the type with a universal number, borrowed: at most 4294967295 octets.
 #[derive(Clone, Copy, PartialEq, Eq, PartialOrd, Ord, Hash)]
 pub struct SimpleStringRef<'a, const NUMBER: u8> {
     text: &'a str,
@@ -32,7 +32,7 @@ pub struct SimpleStringRef<'a, const NUMBER: u8> {
 impl<'a, const NUMBER: u8> SimpleStringRef<'a, NUMBER> {
     ghost use Rattle.der_simple.specs.SimpleStringRef.{octets_of};
 
-    /// A string of these characters.
+    /// Makes a string of these characters.
     ///
     /// # Errors
     /// `ErrorKind::Value` (13) for an octet that is no character of the type, and for more than
@@ -49,28 +49,28 @@ impl<'a, const NUMBER: u8> SimpleStringRef<'a, NUMBER> {
         }
     }
 
-    /// The text.
+    /// Returns the text.
     pub fn as_str(self) -> &'a str
         ensures { result.now ≡ octets_of self.entry }
     {
         self.text
     }
 
-    /// The octets.
+    /// Returns the octets.
     pub fn as_bytes(self) -> &'a [u8]
         ensures { result.now ≡ octets_of self.entry }
     {
         self.text.as_bytes()
     }
 
-    /// How many octets there are.
+    /// Returns the number of octets.
     pub fn len(self) -> Length
         ensures { result ≡ length (octets_of self.entry) }
     {
         Length::new(self.text.len() as u32)
     }
 
-    /// Whether it has no characters.
+    /// Returns whether the string is empty.
     pub fn is_empty(self) -> bool
         ensures { IsTrue result ↔ (octets_of self.entry ≡ []) }
     {

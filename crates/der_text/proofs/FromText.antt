@@ -13,7 +13,7 @@ use Rattle.der_text.proofs.Pairs.{units_len, units_more}
 abbrev small : ℕ → Bool
 small c = nat_lt c 65536
 
--- the octets are the units of the characters of the text but for the rest
+-- the octets are the units of the characters of the text without the rest
 pub record Taken (text octets rest : List ℕ) : Type 0 where
   pub even : length octets % 2 ≡ 0
   pub characters : all_scalars (units octets) ≡ true
@@ -52,7 +52,7 @@ taken_first text = record { even = refl; characters = refl; basic = refl; joined
 unit_of : (c : ℕ) → (c / 256) * 256 + c % 256 ≡ c
 unit_of c = omega arith
 
--- a further character
+-- one more character
 pub taken_more : {text octets rest : List ℕ} → (c : ℕ) (rest' : List ℕ) → Taken text octets rest → IsScalar c → c < 65536 → rest ≡ encode_utf8 c ++ rest' → Taken text (octets ++ (c / 256) ∷ (c % 256) ∷ []) rest'
 taken_more {text} {octets} {rest} c rest' t scalar less e =
     let now : units (octets ++ (c / 256) ∷ (c % 256) ∷ []) ≡ units octets ++ c ∷ [] = units_more octets (c / 256) (c % 256) t.even ∙ ap (λ n. units octets ++ n ∷ []) (unit_of c) in
@@ -68,14 +68,14 @@ taken_more {text} {octets} {rest} c rest' t scalar less e =
     even_more (x ∷ []) h l e = absurd (omega arith)
     even_more (x ∷ y ∷ octets) h l e = let less : length (octets ++ h ∷ l ∷ []) % 2 ≡ 0 = even_more octets h l (omega arith) in omega arith
 
--- a character past FFFF
+-- a character above FFFF
 pub taken_wide : {text octets rest : List ℕ} → (c : ℕ) (rest' : List ℕ) → Taken text octets rest → IsScalar c → 65536 ≤ c → rest ≡ encode_utf8 c ++ rest' → is_basic text ≡ false
 taken_wide {text} {octets} {rest} c rest' t scalar more e =
     let us = units octets ++ c ∷ [] in
     let joined : text ≡ encode_utf8_all us ++ rest' = sym t.joined ∙ joined_more (units octets) c rest rest' e in
     ap is_basic joined ∙ ap (list_all small) (chars_joined us rest' (scalars_more (units octets) c t.characters scalar)) ∙ large_among (units octets) (chars rest') c more
 
--- with nothing left, the units are the characters
+-- if no characters are left, the units are the characters
 pub taken_units : {text octets rest : List ℕ} → Taken text octets rest → length rest ≡ 0 → units octets ≡ chars text
 taken_units {text} {octets} {rest} t e =
     sym (ap chars (sym t.joined ∙ ap (λ r. encode_utf8_all (units octets) ++ r) (nil_from_length rest e)) ∙ chars_joined (units octets) [] t.characters ∙ ap (λ l. units octets ++ l) chars-nil ∙ append-nil (units octets))

@@ -1,4 +1,4 @@
--- What a GeneralStringRef shows.
+-- The octets of a GeneralStringRef.
 use Rattle.std.specs.Prelude.{ℕ, List}
 use Rattle.der_text.specs.declared.general_string.GeneralStringRef.{GeneralStringRef}
 

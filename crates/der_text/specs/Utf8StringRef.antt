@@ -1,4 +1,4 @@
--- What a Utf8StringRef shows, and what octets are read as one.
+-- The octets of a Utf8StringRef, and the octets that are read as one.
 use Rattle.std.specs.Prelude.{ℕ, List, Result}
 use Rattle.der_tlv.specs.declared.error.Error.{Error}
 use Rattle.der_tlv.specs.declared.tag.Tag.{Tag}
@@ -11,6 +11,6 @@ use Rattle.der_text.specs.declared.utf8_string.Utf8StringRef.{Utf8StringRef}
 abbrev pub octets_of : Utf8StringRef → List ℕ
 octets_of string = string.text.now
 
--- what decoding contents octets after a tag as a UTF8String answers
+-- the results of decoding contents octets after a tag as a UTF8String
 abbrev pub DecodesText : Tag → List ℕ → Result Utf8StringRef Error → Type 0
 DecodesText = DecodesOwnAs tags.Utf8String octets_of (λ string. Unit {0}) parse_utf8

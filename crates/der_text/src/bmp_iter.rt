@@ -8,9 +8,9 @@ ghost use Rattle.der_text.specs.BmpUnits.{units};
 use std::iter::FusedIterator;
 use std::marker::Model;
 
-/// The units of 16 bits that are still to come, in order.
+/// The units of 16 bits that are left, in order.
 ///
-/// It is seen as the list of their numbers.
+/// Its view is the list of their numbers.
 #[derive(Debug, Drop)]
 pub struct BmpCodepoints<'a> {
     rest: &'a [u8],
@@ -26,7 +26,7 @@ impl<'a> Model for BmpCodepoints<'a> {
 }
 
 impl<'a> BmpCodepoints<'a> {
-    // The units that the octets are, high octet first.
+    // Makes an iterator over the units in octets, high octet first.
     pub(crate) fn new(octets: &'a [u8]) -> BmpCodepoints<'a>
         ensures { result ≡ units octets.now }
     {
@@ -58,7 +58,7 @@ impl<'a> Iterator for BmpCodepoints<'a> {
 }
 
 impl<'a> ExactSizeIterator for BmpCodepoints<'a> {
-    /// How many units are still to come.
+    /// Returns the number of units that are left.
     #[tactic(auto, using(crate::proofs::Pairs::units_len))]
     fn len(&self) -> usize
         ensures units { result ≡ length self.now }
@@ -69,9 +69,9 @@ impl<'a> ExactSizeIterator for BmpCodepoints<'a> {
 
 impl<'a> FusedIterator for BmpCodepoints<'a> {}
 
-/// The characters that are still to come, in order.
+/// The characters that are left, in order.
 ///
-/// It is seen as the list of their codes.
+/// Its view is the list of their codes.
 #[derive(Debug, Drop)]
 pub struct BmpChars<'a> {
     units: BmpCodepoints<'a>,
@@ -89,7 +89,7 @@ impl<'a> Model for BmpChars<'a> {
 }
 
 impl<'a> BmpChars<'a> {
-    // The characters whose codes the units are.
+    // Makes an iterator over the characters whose codes are these units.
     pub(crate) fn new(codepoints: BmpCodepoints<'a>) -> BmpChars<'a>
         requires { all_scalars codepoints ≡ true }
         ensures { result ≡ codepoints.entry }
@@ -121,7 +121,7 @@ impl<'a> Iterator for BmpChars<'a> {
 }
 
 impl<'a> ExactSizeIterator for BmpChars<'a> {
-    /// How many characters are still to come.
+    /// Returns the number of characters that are left.
     fn len(&self) -> usize
         ensures characters { result ≡ length self.now }
     {

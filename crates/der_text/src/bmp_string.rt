@@ -2,8 +2,8 @@
 //!
 //! The tag is 1E. Each character of the Basic Multilingual Plane is a unit of 16 bits, and the
 //! contents octets are the units in their order, high octet first: `hi` is encoded as 1E 04 00 68
-//! 00 69. Reading refuses an odd number of octets (`ErrorKind::Length`, 7) and a unit from D800 to
-//! DFFF (`ErrorKind::Value`, 13), and then where memory runs out (`ErrorKind::Memory`, 1).
+//! 00 69. Reading refuses an odd number of octets (`ErrorKind::Length`, 7) and a unit from D800
+//! to DFFF (`ErrorKind::Value`, 13), and then fails if memory runs out (`ErrorKind::Memory`, 1).
 
 ghost use Rattle.std.specs.Prelude.{◌≡◌, ◌%◌, ◌^◌, ◌<◌, Some, chars, encode_utf8_all, length, true, refl, IfOk, IfErr};
 ghost use Rattle.std.proofs.Common.{sym};
@@ -37,7 +37,7 @@ pub struct BmpString {
 impl BmpString {
     ghost use Rattle.der_text.specs.BmpString.{octets_of};
 
-    /// The string whose units these octets are, high octet first.
+    /// Makes a string of the units in these octets, high octet first.
     ///
     /// # Errors
     /// `ErrorKind::Length` (7) for an odd number of octets; `ErrorKind::Value` (13) for a unit from
@@ -54,11 +54,11 @@ impl BmpString {
         }
     }
 
-    /// The string of the characters of a text.
+    /// Makes a string of the characters of a text.
     ///
     /// # Errors
-    /// `ErrorKind::Value` (13) for a character past U+FFFF; `ErrorKind::Overflow` (9) for more than
-    /// 4294967295 octets; else `ErrorKind::Memory` (1) where memory runs out.
+    /// `ErrorKind::Value` (13) for a character above U+FFFF; `ErrorKind::Overflow` (9) for more
+    /// than 4294967295 octets; else `ErrorKind::Memory` (1) if memory runs out.
     pub fn from_utf8(alloc: Global, text: &str) -> Result<BmpString, Error>
         ensures { KeepsCharacters octets_of text.now result }
     {
@@ -66,38 +66,38 @@ impl BmpString {
         Ok(BmpString { octets })
     }
 
-    /// The octets of the units, high octet first.
+    /// Returns the octets of the units, high octet first.
     pub fn as_bytes(&self) -> &[u8]
         ensures { result.now ≡ octets_of self.now }
     {
         &self.octets
     }
 
-    /// The octets, in their vector.
+    /// Returns the octets in their vector.
     pub fn into_bytes(self) -> Vec<u8>
         ensures { result.items ≡ octets_of self }
     {
         self.octets
     }
 
-    /// The units of 16 bits, in order.
+    /// Returns the units of 16 bits, in order.
     pub fn codepoints(&self) -> BmpCodepoints<'_>
         ensures { result ≡ units (octets_of self.now) }
     {
         BmpCodepoints::new(&self.octets)
     }
 
-    /// The characters, in order.
+    /// Returns the characters, in order.
     pub fn chars(&self) -> BmpChars<'_>
         ensures { result ≡ units (octets_of self.now) }
     {
         BmpChars::new(self.codepoints())
     }
 
-    /// The string, copied.
+    /// Returns a copy of the string.
     ///
     /// # Errors
-    /// `ErrorKind::Memory` (1) where memory runs out.
+    /// `ErrorKind::Memory` (1) if memory runs out.
     pub fn clone_from_ref(&self, alloc: Global) -> Result<BmpString, Error>
         ensures value { IfOk result (λ s. octets_of s ≡ octets_of self.now) }
         ensures err { IfErr result (λ e. e.kind ≡ kinds.Memory) }
@@ -154,8 +154,8 @@ impl<'a, R: Source<'a>> DecodeValue<'a, R> for BmpString {
     const TAKES_MEMORY: bool = true;
 
     /// # Errors
-    /// (17) on a failed reader; an odd number of octets (7); a unit from D800 to DFFF (13); else (1)
-    /// where memory runs out.
+    /// (17) on a failed reader; (7) for an odd number of octets; (13) for a unit from D800 to
+    /// DFFF; else (1) if memory runs out.
     fn decode_value(alloc: Global, reader: &mut R, header: Header) -> Result<BmpString, Error> {
         let octets = reader.read_slice(header.length)?;
         match check_units(octets) {

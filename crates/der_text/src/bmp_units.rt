@@ -9,7 +9,7 @@ use crate::bmp_iter::BmpCodepoints;
 use der_tlv::{Error, ErrorKind, Length, Tag};
 use std::alloc::Global;
 
-/// Whether each unit is a character, that is, outside D800 to DFFF.
+/// Returns whether each unit is a character, that is, outside D800 to DFFF.
 pub fn are_bmp_characters(octets: &[u8]) -> bool
     ensures { result ≡ are_bmp_characters octets.now }
 {
@@ -54,7 +54,8 @@ fn push_unit(octets: &mut Vec<u8>, unit: u16) -> Result<(), Error>
     Ok(())
 }
 
-/// A number of octets and those of one unit more, exact as long as a length can count them.
+/// Adds the octets of one unit to a number of octets. The sum is exact as long as a length can
+/// count it.
 fn with_unit(len: usize) -> usize
     ensures exact { result < 2 ^ 32 → result ≡ len + 2 }
     ensures bounded { result ≤ len + 2 }
@@ -62,11 +63,11 @@ fn with_unit(len: usize) -> usize
     if len < 0x1_0000_0000 { len + 2 } else { len }
 }
 
-/// How many octets the units of the characters of a text have. It takes no memory, so these faults
-/// are found before any growth.
+/// Returns the number of octets in the units of the characters of a text. It takes no memory, so
+/// these errors are found before any growth.
 ///
 /// # Errors
-/// `ErrorKind::Value` (13) for a character past U+FFFF; `ErrorKind::Overflow` (9) for more than
+/// `ErrorKind::Value` (13) for a character above U+FFFF; `ErrorKind::Overflow` (9) for more than
 /// 4294967295 octets.
 #[tactic(auto, using(crate::proofs::FromText::taken_first, crate::proofs::FromText::taken_wide))]
 fn units_len(text: &str) -> Result<Length, ErrorKind>
@@ -88,11 +89,11 @@ fn units_len(text: &str) -> Result<Length, ErrorKind>
     }
 }
 
-/// The octets of the characters of a text.
+/// Returns the octets of the characters of a text.
 ///
 /// # Errors
-/// `ErrorKind::Value` (13) for a character past U+FFFF; `ErrorKind::Overflow` (9) for more than
-/// 4294967295 octets; else `ErrorKind::Memory` (1) where memory runs out.
+/// `ErrorKind::Value` (13) for a character above U+FFFF; `ErrorKind::Overflow` (9) for more than
+/// 4294967295 octets; else `ErrorKind::Memory` (1) if memory runs out.
 #[tactic(auto, using(crate::proofs::FromText::taken_first, crate::proofs::FromText::taken_wide))]
 pub fn octets_of(alloc: Global, text: &str) -> Result<Vec<u8>, Error>
     ensures even { IfOk result (λ octets. length octets.items % 2 ≡ 0) }

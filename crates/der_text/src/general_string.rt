@@ -1,7 +1,7 @@
 //! Borrowed GeneralString (X.690 8.23).
 //!
-//! The tag is 1B. The contents octets are kept as they stand: which characters they are depends on
-//! escape sequences, and is not looked at.
+//! The tag is 1B. The contents octets are kept unchanged: which characters they are depends on
+//! escape sequences, and is not checked.
 
 ghost use Rattle.std.specs.Prelude.{◌≡◌, ◌^◌, ◌<◌, length, refl, false};
 ghost use Rattle.std.proofs.Common.{Ok};
@@ -15,9 +15,9 @@ use der_elem::{
 use der_tlv::{BackWriter, Error, Header, Length, Reader, Source, Writer};
 use std::alloc::Global;
 
-/// The octets of a GeneralString, borrowed: at most 4294967295 of them.
+/// The octets of a GeneralString, borrowed: at most 4294967295 octets.
 ///
-/// It is made by reading alone, and has no order.
+/// It is only made by reading, and has no order.
 #[derive(Clone, Copy, Debug, PartialEq, Eq)]
 pub struct GeneralStringRef<'a> {
     octets: &'a [u8],
@@ -27,7 +27,7 @@ pub struct GeneralStringRef<'a> {
 impl<'a> GeneralStringRef<'a> {
     ghost use Rattle.der_text.specs.GeneralStringRef.{octets_of};
 
-    /// The octets.
+    /// Returns the octets.
     pub fn as_bytes(self) -> &'a [u8]
         ensures { result.now ≡ octets_of self.entry }
     {

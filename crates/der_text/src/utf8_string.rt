@@ -35,7 +35,7 @@ pub struct Utf8StringRef<'a> {
 impl<'a> Utf8StringRef<'a> {
     ghost use Rattle.der_text.specs.Utf8StringRef.{octets_of};
 
-    /// The text that these octets are.
+    /// Makes a text of these octets.
     ///
     /// # Errors
     /// `ErrorKind::Utf8` (12) for octets that are not UTF-8; `ErrorKind::Overflow` (9) for more
@@ -52,38 +52,38 @@ impl<'a> Utf8StringRef<'a> {
         }
     }
 
-    /// The text.
+    /// Returns the text.
     pub fn as_str(self) -> &'a str
         ensures { result.now ≡ octets_of self.entry }
     {
         self.text
     }
 
-    /// The octets.
+    /// Returns the octets.
     pub fn as_bytes(self) -> &'a [u8]
         ensures { result.now ≡ octets_of self.entry }
     {
         self.text.as_bytes()
     }
 
-    /// How many octets there are.
+    /// Returns the number of octets.
     pub fn len(self) -> Length
         ensures { result ≡ length (octets_of self.entry) }
     {
         Length::new(self.text.len() as u32)
     }
 
-    /// Whether it has no characters.
+    /// Returns whether the text is empty.
     pub fn is_empty(self) -> bool
         ensures { IsTrue result ↔ (octets_of self.entry ≡ []) }
     {
         self.as_bytes().is_empty()
     }
 
-    /// The text, copied.
+    /// Returns a copy of the text.
     ///
     /// # Errors
-    /// `ErrorKind::Memory` (1) where memory runs out.
+    /// `ErrorKind::Memory` (1) if memory runs out.
     pub fn ref_to_owned(self, alloc: Global) -> Result<String, Error>
         ensures value { IfOk result (λ s. string_bytes s ≡ octets_of self.entry) }
         ensures err { IfErr result (λ e. e.kind ≡ kinds.Memory) }
@@ -228,7 +228,7 @@ impl<'a> TryFrom<AnyRef<'a>> for Utf8StringRef<'a> {
         (borrowed_any.contents_of a) r };
 
     /// # Errors
-    /// (4) with no expected tag for another tag; (12) for octets that are not UTF-8.
+    /// (4) with no expected tag for any other tag; (12) for octets that are not UTF-8.
     fn try_from(any: AnyRef<'a>) -> Result<Utf8StringRef<'a>, Error> {
         let tag = any.tag();
         if !tag.equals(Tag::Utf8String) {
@@ -250,7 +250,7 @@ impl<'a> TryFrom<&'a Any> for Utf8StringRef<'a> {
         (owned_any.contents_of a.now) r };
 
     /// # Errors
-    /// (4) with no expected tag for another tag; (12) for octets that are not UTF-8.
+    /// (4) with no expected tag for any other tag; (12) for octets that are not UTF-8.
     fn try_from(any: &'a Any) -> Result<Utf8StringRef<'a>, Error> {
         Utf8StringRef::try_from(any.to_ref())
     }

@@ -1,4 +1,4 @@
--- Any two algorithms are comparable, so equality is that of their encodings.
+-- Any two algorithms are comparable, so they are equal if and only if their encodings are.
 use Rattle.std.proofs.Common.{◌≡◌, Option, Some, None, true, ap, IsTrue, ◌↔◌}
 use Rattle.der_tlv.specs.declared.tag.Tag.{Tag}
 use Rattle.der_tlv.specs.declared.tag.Tag.TheVariants.{Sequence}

@@ -1,4 +1,4 @@
--- Values with one encoding pass each test alike.
+-- Values with one encoding have the same result in each test.
 use Rattle.std.proofs.Common.{◌≡◌, ℕ, List, [], ◌∷◌, map, Bool, true, ◌&&◌, ◌||◌, not, nat_eq, if◌then◌else◌, length, ◌==◌, refl, sym, ap, ◌∙◌}
 use Rattle.std.proofs.Math.Dec.{eqb-suc-suc, eqb-suc-zero, eqb-zero-suc}
 use Rattle.std.specs.Bool.{beq}
@@ -35,7 +35,7 @@ alike_uncritical v w s =
     ∙ ap (λ c. has_identifier (85 ∷ 29 ∷ 19 ∷ []) w && (not c && says_true (string.octets_of (extension.extn_value v)))) s.critical
     ∙ ap (λ o. has_identifier (85 ∷ 29 ∷ 19 ∷ []) w && (not (extension.critical w) && says_true o)) s.value
 
--- an attribute beside another, by its octets
+-- whether two attributes match, by their octets
 matches : List ℕ → Tag → List ℕ → List ℕ → Tag → List ℕ → Bool
 matches type tag contents others_type others_tag others_contents =
     pointwise nat_eq type others_type && (if (is_text_tag tag && is_visible contents) && (is_text_tag others_tag && is_visible others_contents)
@@ -66,7 +66,7 @@ pub alike_any : (v w : AttributeTypeAndValue) (others : List AttributeTypeAndVal
 alike_any v w [] s = refl
 alike_any v w (b ∷ bs) s = ap (λ x. x || list_any (same_attribute v) bs) (alike_first v w b s) ∙ ap (λ x. same_attribute w b || x) (alike_any v w bs s)
 
--- attributes, each beside all of the others
+-- each attribute paired with all of the others
 abbrev pub beside : List AttributeTypeAndValue → List AttributeTypeAndValue → List (AttributeTypeAndValue × List AttributeTypeAndValue)
 beside others attributes = map (λ a. (a, others)) attributes
 
@@ -78,7 +78,7 @@ pub show_beside : (F : form.Ghosts AttributeTypeAndValue) (Other : List Attribut
 show_beside F Other others [] o = tt
 show_beside F Other others (a ∷ rest) o = ((refl, o), show_beside F Other others rest o)
 
--- lists of which any pair passes are as long
+-- any pair passes, so two lists pass if and only if they have the same length
 pub as_long : (xs ys : List AttributeTypeAndValue) → pointwise (λ (x y : AttributeTypeAndValue). true) xs ys ≡ (length xs == length ys)
 as_long [] [] = refl
 as_long [] (y ∷ ys) = sym (eqb-zero-suc (length ys))

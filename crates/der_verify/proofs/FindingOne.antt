@@ -1,4 +1,4 @@
--- The one extension with an identifier among those that are read again, or more than one.
+-- The extensions with an identifier among those that are read again: none, one, or more than one.
 use Rattle.std.proofs.Common.{◌≡◌, ℕ, Bool, true, false, ◌||◌, List, [], ◌∷◌, Some, None, Ok, Err, cond, refl, sym, ap, ◌∙◌, subst}
 use Rattle.std.specs.Prelude.{filter}
 use Rattle.std.specs.List.{list_any}
@@ -24,7 +24,7 @@ none_passes test (e ∷ es) h = at (λ k. none_passes test es k) (test e) refl
     at others true t = let k : true ≡ false = sym (ap (λ b. b || list_any test es) t) ∙ h in absurd (cc)
     at others false t = ap (λ b. cond b (e ∷ filter test es) (filter test es)) t ∙ others (sym (ap (λ b. b || list_any test es) t) ∙ h)
 
--- a list that has one more
+-- a list with one extension more
 more : (F : form.Ghosts Extension) (test : Extension → Bool) (e : Extension) (error : Error) (l : List Extension) → list_any test l ≡ true → error.kind ≡ Value Sequence → FindsOne F (e ∷ filter test l) (Err error)
 more F test e error [] h k = absurd (cc)
 more F test e error (f ∷ es) h k = at (λ h. more F test e error es h k) (test f) refl
@@ -34,7 +34,7 @@ more F test e error (f ∷ es) h k = at (λ h. more F test e error es h k) (test
     at others false t = subst (λ b. FindsOne F (e ∷ cond b (f ∷ filter test es) (filter test es)) (Err error)) (sym t) (others (sym (ap (λ b. b || list_any test es) t) ∙ h))
 
 module _ (F : form.Ghosts Extension) (identifier octets : List ℕ) where
-  -- those with the identifier among the extensions to come are those among all
+  -- the extensions with the identifier among those that are left are those among all
   abbrev pub StillFinds : ReaderState → Type 0
   StillFinds now = (all : List Extension) → AreItems F octets all → (left : List Extension) × AreToCome F now left × (with_identifier identifier left ≡ with_identifier identifier all)
 

@@ -1,4 +1,4 @@
--- An encoding whose contents octets begin with another is found, and that one in its contents octets.
+-- In an encoding whose contents octets begin with another, that first encoding is found.
 use Rattle.std.proofs.Common.{◌≡◌, ℕ, ◌<◌, ◌^◌, List, [], ◌++◌, length, Result, Ok, Err, IsOkAnd, sym, ap, ◌∙◌, subst, append-nil, lit<, arith}
 use Rattle.std.proofs.lemmas.List.{length-append}
 use Rattle.std.specs.Borrow.{Bor}
@@ -17,7 +17,7 @@ module _ (octets : List ℕ) (t u : Tag) (c others : List ℕ) (h : HasFirst oct
       let n = ap length h.octets_are in let k = length-append (header_octets t (length (tlv u c ++ others))) (tlv u c ++ others) in let m = ap length e in let s = h.short in
       record { is_tag = h.is_inner; short = omega arith; octets_are = e }
 
--- of a SEQUENCE whose first field is a SEQUENCE, which is read, that field is found
+-- if the first field of a SEQUENCE is a SEQUENCE that is read, it is found
 pub first_read : (octets contents front others own : List ℕ) (reads : List ℕ → Type 0) (result : Result (Bor (List ℕ)) Error) → octets ≡ tlv Sequence contents → contents ≡ front ++ others → front ≡ tlv Sequence own → reads front → length octets < 2 ^ 32 → ((t u : Tag) → (c behind : List ℕ) → HasFirst octets t u c behind → IsOkAnd result (λ found. found.now ≡ tlv u c)) → IsOkAnd result (λ signed. ReadsFirst reads octets signed.now)
 first_read octets contents front others own reads (Ok found) o c f read short first =
     let parts = o ∙ ap (tlv Sequence) c in

@@ -1,4 +1,4 @@
--- What a new reader reads where octets begin with an encoding.
+-- A new reader of octets that begin with an encoding reads this encoding.
 use Rattle.std.proofs.Common.{◌≡◌, ℕ, ◌+◌, ◌-◌, ◌<◌, ◌^◌, List, ◌++◌, length, take, drop, true, Ok, Err, ap, ◌∙◌, subst, append_assoc, arith}
 use Rattle.std.specs.Prelude.{slice_range}
 use Rattle.std.proofs.lemmas.List.{length-append}
@@ -34,7 +34,7 @@ module _ (octets : List ℕ) (t : Tag) (c others : List ℕ) (b : BeginsWith oct
   header_there =
       ap (read_header 0) (take-length octets ∙ grouped) ∙ read_header-octets t (length c) 0 (c ++ others) b.is_tag fits
 
-  -- nothing is refused
+  -- reading the header does not fail
   pub no_header_fault : (old new : ReaderState) (kind : ErrorKind) → old ≡ new_reader octets Der → HeadFault read_header old new kind → ⊥
   no_header_fault old new kind e f =
       let g = subst (λ s. HeadFault read_header s new kind) e f in

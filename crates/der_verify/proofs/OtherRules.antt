@@ -1,4 +1,4 @@
--- Each rule for lists but the first is about the part that is signed.
+-- Each rule for lists but the first is about the signed part.
 use Rattle.std.proofs.Common.{◌≡◌, List, Option, refl}
 use Rattle.der_pkix.specs.Crl.CertificateList as list
 use Rattle.der_pkix.specs.declared.certificate.extension.Extension.{Extension}

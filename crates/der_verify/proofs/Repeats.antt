@@ -1,4 +1,4 @@
--- Extensions that are read again, beside the identifiers that were seen before.
+-- Extensions that are read again, and the identifiers that were seen before.
 use Rattle.std.proofs.Common.{◌≡◌, ℕ, Bool, true, false, ◌||◌, List, [], ◌∷◌, Some, None, Ok, cond, not, refl, sym, ap, ◌∙◌, subst}
 use Rattle.std.proofs.lemmas.Cmp.{nat_list_eq_equiv}
 use Rattle.std.proofs.lemmas.Map.Text.{is_eq-slice_cmp}
@@ -23,11 +23,11 @@ use Rattle.der_verify.specs.Rfc5280.{has_repeated}
 abbrev pub octets_of : Extension → List ℕ
 octets_of e = identifier.octets_of (extension.extn_id e)
 
--- one of these keys is these octets
+-- one of these keys is equal to these octets
 abbrev pub is_among : List (Bor (List ℕ)) → List ℕ → Bool
 is_among keys octets = list_any (λ k. is_eq (slice_cmp nat_cmp octets k.now)) keys
 
--- an extension has an identifier that was seen, or two extensions have one
+-- an extension has an identifier that was seen, or two extensions have the same identifier
 abbrev pub repeats : List (Bor (List ℕ)) → List Extension → Bool
 repeats keys left = list_any (λ e. is_among keys (octets_of e)) left || has_repeated left
 
@@ -39,7 +39,7 @@ none_among (e ∷ es) = none_among es
 pub nothing_seen : (keys : List (Bor (List ℕ))) (l : List Extension) → keys ≡ [] → repeats keys l ≡ has_repeated l
 nothing_seen keys l none = ap (λ k. repeats k l) none ∙ ap (λ b. b || has_repeated l) (none_among l)
 
--- the keys are those before and this one
+-- the keys are those before, and this one
 abbrev pub Joins : List (Bor (List ℕ)) → List (Bor (List ℕ)) → List ℕ → Type 0
 Joins old new octets = (q : Bor (List ℕ)) → is_among new q.now ≡ cond (is_eq (slice_cmp nat_cmp octets q.now)) true (is_among old q.now)
 
@@ -59,7 +59,7 @@ either : (b c : Bool) → cond b true c ≡ (b || c)
 either true c = refl
 either false c = refl
 
--- an extension was seen where it has the last identifier or was seen before
+-- an extension was seen if it has the last identifier or was seen before
 is_one : (old new : List (Bor (List ℕ))) (octets : List ℕ) → Joins old new octets → (e : Extension) → is_among new (octets_of e) ≡ (has_identifier octets e || is_among old (octets_of e))
 is_one old new octets joins e =
     let q : Bor (List ℕ) = record { ref_ptr = (0, 0); now = octets_of e } in
@@ -81,7 +81,7 @@ after_new old new e es unseen joins =
     ∙ sym (ap (λ b. (b || list_any (λ f. is_among old (octets_of f)) es) || has_repeated (e ∷ es)) unseen)
 
 module _ (F : form.Ghosts Extension) (octets : List ℕ) where
-  -- what is told of the extensions to come, beside those that were seen, is told of all
+  -- the result for the extensions that are left, with those that were seen, is the result for all
   abbrev pub StillRepeats : List (Bor (List ℕ)) → ReaderState → Type 0
   StillRepeats keys now = (all : List Extension) → AreItems F octets all → (left : List Extension) × AreToCome F now left × (repeats keys left ≡ has_repeated all)
 
@@ -94,7 +94,7 @@ module _ (F : form.Ghosts Extension) (octets : List ℕ) where
       sym (ap (repeats keys) (none_to_come F now new so.0 so.1 on)) ∙ so.2
 
   module _ (alike : (v w : Extension) → F.encoding v ≡ F.encoding w → octets_of v ≡ octets_of w) where
-    -- one that was not seen, and then those that are left
+    -- an extension that was not seen, and then those that are left
     pub repeats_on : (old new : List (Bor (List ℕ))) (now next_now : ReaderState) (v : Extension) → StillRepeats old now → ReadsOn F now next_now (Some (Ok v)) → is_among old (octets_of v) ≡ false → Joins old new (octets_of v) → StillRepeats new next_now
     repeats_on old new now next_now v left on unseen joins = λ all a.
         let so = left all a in
@@ -106,7 +106,7 @@ module _ (F : form.Ghosts Extension) (octets : List ℕ) where
               ∙ sym (ap (repeats old) next.are) ∙ so.2,
         )
 
-    -- one that was seen
+    -- an extension that was seen
     pub repeats_here : (keys : List (Bor (List ℕ))) (now new : ReaderState) (v : Extension) → StillRepeats keys now → ReadsOn F now new (Some (Ok v)) → is_among keys (octets_of v) ≡ true → (all : List Extension) → AreItems F octets all → true ≡ has_repeated all
     repeats_here keys now new v left on seen all a =
         let so = left all a in
@@ -115,7 +115,7 @@ module _ (F : form.Ghosts Extension) (octets : List ℕ) where
         sym (ap (λ b. (b || list_any (λ e. is_among keys (octets_of e)) next.others) || has_repeated (next.first ∷ next.others)) first)
         ∙ sym (ap (repeats keys) next.are) ∙ so.2
 
-  -- whether two of all have one identifier is whether two of those that are left have
+  -- two of all extensions have the same identifier if and only if two of those that are left have
   abbrev pub StillTwo : ReaderState → Type 0
   StillTwo now = (all : List Extension) → AreItems F octets all → (left : List Extension) × AreToCome F now left × (has_repeated left ≡ has_repeated all)
 
@@ -138,12 +138,12 @@ module _ (F : form.Ghosts Extension) (octets : List ℕ) where
               ∙ sym (ap has_repeated next.are) ∙ so.2,
         )
 
--- a key that is new was not there
+-- a key that was added was absent
 pub was_absent : (added there : Bool) → added ≡ not there → added ≡ true → there ≡ false
 was_absent added false a n = refl
 was_absent added true a n = sym n ∙ a
 
--- a key that is not new was there
+-- a key that was not added was present
 pub was_present : (added there : Bool) → added ≡ not there → added ≡ false → there ≡ true
 was_present added true a n = refl
 was_present added false a n = let k : true ≡ false = sym a ∙ n in absurd (cc)

@@ -1,4 +1,4 @@
--- Items that are read again, one after another, and what each shows.
+-- Items that are read again, one after another, and the value that each shows.
 use Rattle.std.proofs.Common.{◌≡◌, ℕ, List, [], ◌∷◌, Bool, true, false, ◌||◌, ◌&&◌, Some, None, Result, Ok, Err, refl, sym, ap, ◌∙◌, subst}
 use Rattle.std.specs.Cmp.Lexicographic.{pointwise}
 use Rattle.std.specs.List.{list_all, list_any}
@@ -12,7 +12,7 @@ use Rattle.der_lists.specs.Items.{AreItems, AreToCome}
 use Rattle.der_lists.proofs.TestedItems.{all_to_come, next_of, none_to_come, never_refused}
 use Rattle.der_verify.specs.Shown.{show_themselves, AreShown, Encodes, ShowEach, ShownToCome}
 
--- items to come show themselves
+-- the items that are left show themselves
 pub themselves : {T : Type 0} (F : form.Ghosts T) (items : List T) (now : ReaderState) → AreToCome F now items → ShownToCome F (Encodes F) now items
 themselves F items now are = record { items = items; are = are; show = show_themselves F items }
 
@@ -20,7 +20,7 @@ pub all_themselves : {T : Type 0} (F : form.Ghosts T) (octets : List ℕ) (items
 all_themselves F octets items now fits is a = themselves F items now (all_to_come F octets items now fits is a)
 
 module _ {T X : Type 0} (F : form.Ghosts T) (shows : T → X → Type 0) where
-  -- a new reader has the items of its octets before it
+  -- a new reader has all items of its octets left
   pub all_shown : (octets : List ℕ) (shown : List X) (now : ReaderState) → Fits octets → now ≡ new_reader octets Der → AreShown F shows octets shown → ShownToCome F shows now shown
   all_shown octets shown now fits is a = record { items = a.items; are = all_to_come F octets a.items now fits is a.are; show = a.show }
 
@@ -36,7 +36,7 @@ module _ {T X : Type 0} (F : form.Ghosts T) (shows : T → X → Type 0) where
   never_shown free now new shown e left on = never_refused F free now new left.items e left.are on
 
   module _ (respects : (v w : T) (x : X) → F.encoding v ≡ F.encoding w → shows v x → shows w x) where
-    -- the first of what is shown is that of what is read, and the others are to come
+    -- the first value is that of the item that was read, and the others are left
     pub record NextShown (new : ReaderState) (shown : List X) (v : T) : Type 0 where
       pub first : X
       pub others : List X
@@ -55,11 +55,11 @@ module _ {T X : Type 0} (F : form.Ghosts T) (shows : T → X → Type 0) where
         split new next.first v next.others shown next.same next.left (subst (λ l. ShowEach shows l shown) next.are left.show)
 
   module _ (test : X → Bool) (start : ReaderState) where
-    -- whether one of all passes is whether one of those that are left does
+    -- one of all passes if and only if one of those that are left does
     abbrev pub SomeLeft : ReaderState → Type 0
     SomeLeft now = (all : List X) → ShownToCome F shows start all → (left : List X) × ShownToCome F shows now left × (list_any test left ≡ list_any test all)
 
-    -- whether all pass is whether all of those that are left do
+    -- all pass if and only if all of those that are left do
     abbrev pub AllLeft : ReaderState → Type 0
     AllLeft now = (all : List X) → ShownToCome F shows start all → (left : List X) × ShownToCome F shows now left × (list_all test left ≡ list_all test all)
 
@@ -87,7 +87,7 @@ module _ {T X : Type 0} (F : form.Ghosts T) (shows : T → X → Type 0) where
         sym (ap (list_all test) (none_shown now new so.0 so.1 on)) ∙ so.2
 
   module _ (test : X → X → Bool) (start other : ReaderState) where
-    -- whether all pairs pass is whether those that are left do
+    -- all pairs pass if and only if those that are left do
     abbrev pub PairsLeft : ReaderState → ReaderState → Type 0
     PairsLeft left right = (xs ys : List X) → ShownToCome F shows start xs → ShownToCome F shows other ys
         → (vs ws : List X) × ShownToCome F shows left vs × ShownToCome F shows right ws × (pointwise test vs ws ≡ pointwise test xs ys)

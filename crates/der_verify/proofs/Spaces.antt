@@ -1,10 +1,10 @@
--- Spaces before a string, and what follows them.
+-- Spaces before a string, and the characters after them.
 use Rattle.std.proofs.Common.{◌≡◌, ◌==◌, ◌-◌, ◌<◌, ◌≤◌, ℕ, ◌≢◌, Bool, true, false, List, [], ◌∷◌, length, take, drop, get_or, refl, sym, ap, ◌∙◌, subst, arith}
 use Rattle.std.specs.Prelude.{if◌then◌else◌}
 use Rattle.std.proofs.Math.Seq.{take-length}
 use Rattle.der_verify.specs.Text.{drop_spaces, settled, spaced}
 
--- a space before a string that has one changes nothing
+-- a space before a string that begins with one changes nothing
 spaced_twice : (ys : List ℕ) → spaced (spaced ys) ≡ spaced ys
 spaced_twice [] = refl
 spaced_twice (y ∷ ys) = at (y == 32) refl
@@ -40,16 +40,16 @@ spaced_front (x ∷ xs) some = at (λ h. spaced_front xs h) (x == 32) refl
         let before : spaced (x ∷ settled xs) ≡ 32 ∷ x ∷ settled xs = ap (λ b. if b then x ∷ settled xs else 32 ∷ x ∷ settled xs) e in
         ap (λ l. spaced (settled l)) same ∙ ap spaced held ∙ before ∙ sym (ap (λ l. 32 ∷ l) held) ∙ sym (ap (λ l. 32 ∷ settled l) same)
 
--- a space, and a string after it and after others
+-- a space, then spaces, then a string
 pub front_space : (xs others : List ℕ) → others ≡ drop_spaces xs → 1 ≤ length others → settled (32 ∷ xs) ≡ 32 ∷ settled others
 front_space xs others o some = spaced_settled xs ∙ spaced_front xs (subst (λ l. 1 ≤ length l) o some) ∙ sym (ap (λ l. 32 ∷ settled l) o)
 
--- a space with nothing after it but spaces
+-- a space with only spaces after it
 pub front_end : (xs others : List ℕ) → others ≡ drop_spaces xs → length others ≡ 0 → settled (32 ∷ xs) ≡ []
 front_end xs [] o none = spaced_settled xs ∙ ap (λ l. spaced (settled l)) (sym o)
 front_end xs (x ∷ others) o none = absurd (omega (arith, none))
 
--- another character than a space
+-- a character that is no space
 pub front_other : (x : ℕ) (xs : List ℕ) → (x == 32) ≡ false → settled (x ∷ xs) ≡ x ∷ settled xs
 front_other x xs e = ap (λ b. if b then spaced (settled xs) else x ∷ settled xs) e
 
@@ -67,11 +67,11 @@ shorter (x ∷ xs) = at (shorter xs) (x == 32) refl
     at others true e = let same : length (drop_spaces (x ∷ xs)) ≡ length (drop_spaces xs) = ap (λ b. length (if b then drop_spaces xs else x ∷ xs)) e in omega (arith, same, others)
     at others false e = let same : length (drop_spaces (x ∷ xs)) ≡ length (x ∷ xs) = ap (λ b. length (if b then drop_spaces xs else x ∷ xs)) e in omega (arith, same)
 
--- what is left behind the first
+-- what is left after the first
 rest_is : (x : ℕ) (xs : List ℕ) → take (length (x ∷ xs) - 1) (drop 1 (x ∷ xs)) ≡ xs
 rest_is x xs = let n : length (x ∷ xs) - 1 ≡ length xs = omega arith in ap (λ n. take n xs) n ∙ take-length xs
 
--- a string of a space and others, of which none is left
+-- a string of a space and others, with nothing left after the spaces
 pub end_after : (l others : List ℕ) (d : ℕ) → 1 ≤ length l → get_or l 0 d ≡ 32 → others ≡ drop_spaces (take (length l - 1) (drop 1 l)) → length others ≡ 0 → settled l ≡ []
 end_after [] others d some at o none = absurd (omega (arith, some))
 end_after (x ∷ xs) others d some at o none =

@@ -1,9 +1,9 @@
--- A list that is gone through from its front: what passes a test, in its order.
+-- A list is read from its front: the items that pass a test, in their order.
 use Rattle.std.proofs.Common.{◌≡◌, ◌-◌, ◌≤◌, Bool, true, false, List, [], ◌∷◌, ◌++◌, length, take, drop, get_or, cond, sym, ap, ◌∙◌, append_assoc, arith}
 use Rattle.std.specs.Prelude.{filter}
 use Rattle.std.proofs.Math.Seq.{take-length}
 
--- what is left behind the first
+-- what is left after the first
 pub others_are : {X : Type 0} (e : X) (es others : List X) → others ≡ take (length (e ∷ es) - 1) es → others ≡ es
 others_are e es others o = let n : length (e ∷ es) - 1 ≡ length es = omega arith in o ∙ ap (λ n. take n es) n ∙ take-length es
 

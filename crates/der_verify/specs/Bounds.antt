@@ -1,4 +1,4 @@
--- How many characters the text of an attribute of a name may have, as the module of RFC 5280 appendix A.1 has it, with its upper bounds.
+-- The number of characters that the text of an attribute of a name may have, by the module and the upper bounds of RFC 5280 appendix A.1.
 use Rattle.std.specs.Prelude.{ℕ, nat_eq, nat_le, nat_lt, List, [], ◌∷◌, length, filter, Bool, ◌||◌, if◌then◌else◌}
 use Rattle.std.specs.List.{list_any}
 use Rattle.std.specs.Cmp.Lexicographic.{pointwise}
@@ -15,7 +15,7 @@ domain_component = 9 ∷ 146 ∷ 38 ∷ 137 ∷ 147 ∷ 242 ∷ 44 ∷ 100 ∷ 1
 abbrev pub email_address : List ℕ
 email_address = 42 ∷ 134 ∷ 72 ∷ 134 ∷ 247 ∷ 13 ∷ 1 ∷ 9 ∷ 1 ∷ []
 
--- whether an identifier is this one
+-- whether an identifier is equal to another
 abbrev pub is : List ℕ → List ℕ → Bool
 is identifier type = pointwise nat_eq type identifier
 
@@ -30,7 +30,7 @@ fewest type =
     else (if is_id_at (6 ∷ []) type then 2
     else 1)
 
--- the most characters (A.1, upper bounds): ub-common-name, ub-serial-number, ub-organization-name, ub-organizational-unit-name and ub-title are 64; ub-locality-name, ub-state-name and ub-pseudonym 128; ub-emailaddress-length 255; ub-name 32768; where there is no bound, as many as a length counts
+-- the most characters (A.1, upper bounds): ub-common-name, ub-serial-number, ub-organization-name, ub-organizational-unit-name and ub-title are 64; ub-locality-name, ub-state-name and ub-pseudonym 128; ub-emailaddress-length 255; ub-name 32768; with no bound, the greatest length
 unfoldable pub most : List ℕ → ℕ
 most type =
     if is_id_at (6 ∷ []) type then 2
@@ -44,6 +44,6 @@ most type =
 abbrev pub begins_character : ℕ → Bool
 begins_character octet = nat_lt octet 128 || nat_le 192 octet
 
--- how many characters a text has
+-- the number of characters in a text
 abbrev pub character_count : List ℕ → ℕ
 character_count text = length (filter begins_character text)

@@ -1,4 +1,4 @@
--- What items show is decided by their encodings.
+-- The encoding of an item determines what it shows.
 use Rattle.std.specs.Prelude.{◌≡◌, ℕ, List, Bool, true, false, ◌&&◌, Option, Some, None}
 use Rattle.std.specs.Bool.{beq}
 use Rattle.std.specs.Cmp.Lexicographic.{bytes_decides}
@@ -38,7 +38,7 @@ use Rattle.der_pkix.specs.contracts.name.relative_distinguished_name.RelativeDis
 use Rattle.der_verify.specs.Names.{AreAttributes}
 use Rattle.der_verify.specs.Rfc5280Lists.{EntryShows, ShowsExtensions}
 
--- a part of a name has the attributes of a part with its encoding
+-- two parts of a name with the same encoding have the same attributes
 pub same_attributes : (A : form.Ghosts AttributeTypeAndValue) (v w : RelativeDistinguishedName) (attributes : List AttributeTypeAndValue) → tlv tags.Set (part_form.ghosts.value.contents v) ≡ tlv tags.Set (part_form.ghosts.value.contents w) → AreAttributes A v attributes → AreAttributes A w attributes
 same_attributes A v w attributes e a =
     subst (λ octets. AreItems A octets attributes) (tlv-injective tags.Set tags.Set (part_form.ghosts.value.contents v) (part_form.ghosts.value.contents w) e).1 a
@@ -54,7 +54,7 @@ same_flag true false i = absurd (cc)
 same_flag false true i = absurd (cc)
 same_flag false false i = refl
 
--- what is tested of an attribute
+-- the tested fields of two attributes are equal
 pub record SameFields (v w : AttributeTypeAndValue) : Type 0 where
   pub type_ : identifier.octets_of (attribute.type_ v) ≡ identifier.octets_of (attribute.type_ w)
   pub tag : tag_of (attribute.value v) ≡ tag_of (attribute.value w)
@@ -72,13 +72,13 @@ same_fields v w e =
     let told = tlv-injective (tag_of (attribute.value v)) (tag_of (attribute.value w)) (contents_of (attribute.value v)) (contents_of (attribute.value w)) value in
     record { type_ = type_; tag = told.0; contents = told.1 }
 
--- what is tested of an extension
+-- the tested fields of two extensions are equal
 pub record SameExtension (v w : Extension) : Type 0 where
   pub identifier : identifier.octets_of (extension.extn_id v) ≡ identifier.octets_of (extension.extn_id w)
   pub critical : extension.critical v ≡ extension.critical w
   pub value : string.octets_of (extension.extn_value v) ≡ string.octets_of (extension.extn_value w)
 
--- a criticality that is absent is told from the OCTET STRING behind it
+-- an absent `critical` is distinguished from the OCTET STRING after it
 critical_told : (is_default : Bool) → Distinguished (λ t. same_identifier t tags.Boolean) (first_tag_unless is_default (Some tags.Boolean)) (Some tags.OctetString)
 critical_told true = sym (same_identifier-test false tags.OctetString tags.Boolean (λ i. absurd (cc), λ e. absurd (cc)))
 critical_told false = tt
@@ -106,7 +106,7 @@ octets_of_optional p = optional (λ x. tlv tags.Sequence (extensions_form.ghosts
 not_empty : (o : List ℕ) → [] ≡ tlv tags.Sequence o ++ [] → ⊥
 not_empty o e = let n = length-tlv-positive tags.Sequence o in let l = ap length e in let k = length-append (tlv tags.Sequence o) [] in absurd (omega (arith, n, l, k))
 
--- extensions with the same octets show the same
+-- extensions with the same octets show the same value
 same_optional : (F : form.Ghosts Extension) (p q : Option Extensions) (shown : Option (List Extension)) → octets_of_optional p ≡ octets_of_optional q → ShowsExtensions F p shown → ShowsExtensions F q shown
 same_optional F None None shown e s = s
 same_optional F (Some x) (Some y) None e s = absurd s
@@ -115,7 +115,7 @@ same_optional F (Some x) (Some y) (Some items) e s =
 same_optional F None (Some y) shown e s = absurd (not_empty (extensions_form.ghosts.value.contents y) e)
 same_optional F (Some x) None shown e s = absurd (not_empty (extensions_form.ghosts.value.contents x) (sym e))
 
--- behind the serial number and the date
+-- the extensions after the serial number and the date
 behind : (v w : RevokedCertificate) → entry_form.ghosts.value.contents v ≡ entry_form.ghosts.value.contents w → octets_of_optional (entry.crl_entry_extensions v) ≡ octets_of_optional (entry.crl_entry_extensions w)
 behind v w e =
     let x = octets_of_optional (entry.crl_entry_extensions v) in
@@ -126,7 +126,7 @@ behind v w e =
     let told = sym (ap (λ o. o ++ x) (time_laws.encoding_is-law s)) ∙ dates ∙ ap (λ o. o ++ y) (time_laws.encoding_is-law t) in
     (tlv-unique _ _ _ _ x y told).2
 
--- an entry of a list shows the extensions of an entry with its encoding
+-- two entries of a list with the same encoding show the same extensions
 pub same_extensions : (F : form.Ghosts Extension) (v w : RevokedCertificate) (shown : Option (List Extension)) → tlv tags.Sequence (entry_form.ghosts.value.contents v) ≡ tlv tags.Sequence (entry_form.ghosts.value.contents w) → EntryShows F v shown → EntryShows F w shown
 same_extensions F v w shown e s =
     same_optional F (entry.crl_entry_extensions v) (entry.crl_entry_extensions w) shown (behind v w (tlv-injective tags.Sequence tags.Sequence (entry_form.ghosts.value.contents v) (entry_form.ghosts.value.contents w) e).1) s

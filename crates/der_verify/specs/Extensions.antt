@@ -21,11 +21,11 @@ has_identifier identifier e = pointwise nat_eq (octets_of (extension_fields.extn
 abbrev pub AreExtensions : form.Ghosts Extension → Extensions → List Extension → Type 0
 AreExtensions F extensions items = AreItems F (list.octets_of (extensions_items.items_of extensions)) items
 
--- the extensions that have it, in their order
+-- the extensions with an identifier, in their order
 abbrev pub with_identifier : List ℕ → List Extension → List Extension
 with_identifier identifier extensions = filter (has_identifier identifier) extensions
 
--- the one of a list, none of an empty list, or a refusal (13) of more than one
+-- the only one of a list, none for an empty list, or an error (13) for more than one
 abbrev pub FindsOne : form.Ghosts Extension → List Extension → Result (Option Extension) Error → Type 0
 FindsOne F [] (Ok None) = Unit {0}
 FindsOne F (e ∷ []) (Ok (Some found)) = F.encoding found ≡ F.encoding e

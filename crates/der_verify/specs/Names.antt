@@ -21,7 +21,7 @@ use Rattle.der_pkix.specs.Name.RelativeDistinguishedName as part
 use Rattle.der_verify.specs.Shown.{AreShown}
 use Rattle.der_verify.specs.Text.{prepared, same_character}
 
--- whether octets are all characters of ASCII that are seen, or spaces (X.680 table 8, VisibleString)
+-- whether all octets are visible characters of ASCII or spaces (X.680 table 8, VisibleString)
 abbrev pub is_visible : List ℕ → Bool
 is_visible = list_all (λ x. nat_le 32 x && nat_le x 126)
 
@@ -35,11 +35,11 @@ is_text_tag _ = false
 abbrev pub is_text : AnyRef → Bool
 is_text v = is_text_tag (tag_of v) && is_visible (contents_of v)
 
--- one tag and the same contents octets
+-- the same tag and the same contents octets
 abbrev pub same_exactly : AnyRef → AnyRef → Bool
 same_exactly v w = same_identifier (tag_of v) (tag_of w) && pointwise nat_eq (contents_of v) (contents_of w)
 
--- values that match: text after it is prepared, and any others where they are equal
+-- values that match: text is compared after it is prepared, and any other values match if they are equal
 abbrev pub same_value : AnyRef → AnyRef → Bool
 same_value v w = if is_text v && is_text w then pointwise same_character (prepared (contents_of v)) (prepared (contents_of w)) else same_exactly v w
 
@@ -51,11 +51,11 @@ same_attribute a b = pointwise nat_eq (octets_of (attribute.type_ a)) (octets_of
 abbrev pub each_matches : List AttributeTypeAndValue → List AttributeTypeAndValue → Bool
 each_matches attributes others = list_all (λ a. list_any (same_attribute a) others) attributes
 
--- "Two relative distinguished names RDN1 and RDN2 match if they have the same number of naming attributes and for each naming attribute in RDN1 there is a matching naming attribute in RDN2", and in RDN1 for each in RDN2, which says more only where one has an attribute twice
+-- "Two relative distinguished names RDN1 and RDN2 match if they have the same number of naming attributes and for each naming attribute in RDN1 there is a matching naming attribute in RDN2"; also in RDN1 for each in RDN2, which adds a condition only if one has an attribute twice
 abbrev pub same_part : List AttributeTypeAndValue → List AttributeTypeAndValue → Bool
 same_part attributes others = length attributes == length others && (each_matches attributes others && each_matches others attributes)
 
--- as many parts, and each matches the one in its place
+-- the same number of parts, and each matches the part at its index
 abbrev pub same_name : List (List AttributeTypeAndValue) → List (List AttributeTypeAndValue) → Bool
 same_name = pointwise same_part
 

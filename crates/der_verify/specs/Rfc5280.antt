@@ -1,4 +1,4 @@
--- What RFC 5280 asks of a certificate beyond its grammar: a test a rule, which is true of a certificate that breaks it.
+-- The rules of RFC 5280 for certificates beyond the grammar: each rule is a test that is true if the certificate breaks it.
 use Rattle.std.specs.Prelude.{ℕ, ◌==◌, nat_eq, nat_lt, nat_le, ◌≡◌, List, [], ◌∷◌, length, take, drop, Bool, true, false, not, ◌&&◌, ◌||◌, Option, Some, None, is_some}
 use Rattle.std.specs.Borrow.{Bor}
 use Rattle.std.specs.Bool.{beq}
@@ -23,7 +23,7 @@ use Rattle.der_verify.specs.Extensions.{has_identifier, AreExtensions}
 use Rattle.der_verify.specs.declared.rfc5280.CertificateRule.{CertificateRule}
 use Rattle.der_verify.specs.declared.rfc5280.CertificateRule.TheVariants as rule
 
--- the extensions; none where the field is absent
+-- the extensions; none if the field is absent
 abbrev pub AreListed : form.Ghosts Extension → Option Extensions → List Extension → Type 0
 AreListed F None items = items ≡ []
 AreListed F (Some x) items = AreExtensions F x items
@@ -32,20 +32,20 @@ AreListed F (Some x) items = AreExtensions F x items
 abbrev pub is_empty_name : RdnSequence → Bool
 is_empty_name n = length (list.octets_of (name.items_of n)) == 0
 
--- whether an extension has this identifier and is critical, or is not
+-- whether an extension has this identifier, and is critical or not as given
 abbrev pub is_so_critical : List ℕ → Bool → Extension → Bool
 is_so_critical octets critical e = has_identifier octets e && beq (extension.critical e) critical
 
--- whether there is such an extension
+-- whether there is an extension with this identifier that is critical or not as given
 abbrev pub has_criticality : List ℕ → Bool → List Extension → Bool
 has_criticality octets critical = list_any (is_so_critical octets critical)
 
--- whether two extensions have one identifier
+-- whether two extensions have the same identifier
 abbrev pub has_repeated : List Extension → Bool
 has_repeated [] = false
 has_repeated (e ∷ others) = list_any (has_identifier (identifier.octets_of (extension.extn_id e))) others || has_repeated others
 
--- whether contents octets are those of a positive INTEGER: the first bit says no sign, and they are not 00
+-- whether contents octets are those of a positive INTEGER: the sign bit is 0, and they are not 00
 abbrev pub is_positive : List ℕ → Bool
 is_positive [] = false
 is_positive (x ∷ xs) = nat_lt x 128 && not (x == 0 && length xs == 0)
@@ -65,7 +65,7 @@ id_pe n = 43 ∷ 6 ∷ 1 ∷ 5 ∷ 5 ∷ 7 ∷ 1 ∷ n ∷ []
 abbrev pub is_uncritical_ca : Extension → Bool
 is_uncritical_ca e = has_identifier (id_ce 19) e && (not (extension.critical e) && says_true (string.octets_of (extension.extn_value e)))
 
--- the extensions whose criticality is fixed: the identifier, and what is not allowed
+-- the rules about criticality: the identifier of the extension, and the criticality that it must not have
 abbrev pub forbidden : CertificateRule → Option (List ℕ × Bool)
 -- 4.2.1.1, 4.2.1.2, 4.2.1.8, 4.2.1.15, 4.2.2.1, 4.2.2.2: not critical
 forbidden rule.AuthorityKeyIdentifierIsNotCritical = Some (id_ce 35, true)
@@ -80,51 +80,51 @@ forbidden rule.PolicyConstraintsIsCritical = Some (id_ce 36, false)
 forbidden rule.InhibitAnyPolicyIsCritical = Some (id_ce 54, false)
 forbidden _ = None
 
--- the same as code has it
+-- `forbidden` with the identifier as a slice
 abbrev pub seen_forbidden : Option (Bor (List ℕ) × Bool) → Option (List ℕ × Bool)
 seen_forbidden None = None
 seen_forbidden (Some (octets, critical)) = Some (octets.now, critical)
 
--- the other rules, of a certificate with these extensions
+-- whether a certificate with these extensions breaks one of the other rules
 abbrev pub breaks_otherwise : CertificateRule → TbsCertificate → List Extension → Bool
--- 4.1.2.1: extensions stand in version 3 (2) alone
+-- 4.1.2.1: only version 3 (2) has extensions
 breaks_otherwise rule.ExtensionsInVersion3 c listed = is_some (tbs.extensions c) && not (tbs.version c == 2)
 -- 4.1.2.2: the serial number is positive
 breaks_otherwise rule.SerialNumberIsPositive c listed = not (is_positive (contents_of (tbs.serial_number c)))
--- 4.1.2.2: it has at most 20 octets
+-- 4.1.2.2: the serial number has at most 20 octets
 breaks_otherwise rule.SerialNumberHasAtMost20Octets c listed = nat_lt 20 (length (contents_of (tbs.serial_number c)))
 -- 4.1.2.4: the issuer is not empty
 breaks_otherwise rule.IssuerIsNotEmpty c listed = is_empty_name (tbs.issuer c)
--- 4.1.2.6: beside an empty subject stands a subjectAltName that is critical
+-- 4.1.2.6: if the subject is empty, a critical subjectAltName is present
 breaks_otherwise rule.EmptySubjectHasCriticalAltName c listed = is_empty_name (tbs.subject c) && not (has_criticality (id_ce 17) true listed)
--- 4.1.2.8: unique identifiers stand in version 2 (1) and 3 (2) alone
+-- 4.1.2.8: only versions 2 (1) and 3 (2) have unique identifiers
 breaks_otherwise rule.UniqueIdentifiersInVersion2 c listed = (is_some (tbs.issuer_unique_id c) || is_some (tbs.subject_unique_id c)) && tbs.version c == 0
--- 4.2: each extension stands once
+-- 4.2: no extension is repeated
 breaks_otherwise rule.ExtensionsStandOnce c listed = has_repeated listed
 -- 4.2.1.9: basicConstraints of a CA is critical
 breaks_otherwise rule.BasicConstraintsOfCaIsCritical c listed = list_any is_uncritical_ca listed
 breaks_otherwise _ c listed = false
 
--- an extension that is not allowed stands there
+-- whether an extension has a criticality that a rule forbids
 abbrev pub breaks_criticality : Option (List ℕ × Bool) → List Extension → Bool
 breaks_criticality None extensions = false
 breaks_criticality (Some (octets, critical)) extensions = has_criticality octets critical extensions
 
--- whether the part that is signed breaks a rule
+-- whether the signed part breaks a rule
 abbrev pub breaks_within : CertificateRule → TbsCertificate → List Extension → Bool
 breaks_within r c listed = breaks_otherwise r c listed || breaks_criticality (forbidden r) listed
 
--- whether the algorithm within is equal to the one outside
+-- whether the signed algorithm is equal to the one outside
 abbrev pub same_algorithms : Certificate → Bool
 same_algorithms c = equality.ghosts.eq (tbs.signature (certificate.tbs_certificate c)) (certificate.signature_algorithm c)
 
 -- whether a certificate with these extensions breaks a rule
 abbrev pub breaks : CertificateRule → Certificate → List Extension → Bool
--- 4.1.1.2, 4.1.2.3: the two algorithms are one
+-- 4.1.1.2, 4.1.2.3: the two algorithms are equal
 breaks rule.AlgorithmsAgree c listed = not (same_algorithms c)
 breaks r c listed = breaks_within r (certificate.tbs_certificate c) listed
 
--- all rules, in the order in which they are told
+-- all rules, in the order in which `check_certificate` returns them
 abbrev pub certificate_rules : List CertificateRule
 certificate_rules =
     rule.AlgorithmsAgree

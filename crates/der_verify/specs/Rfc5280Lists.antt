@@ -1,4 +1,4 @@
--- What RFC 5280 asks of a list of revoked certificates beyond its grammar: a test a rule, which is true of a list that breaks it.
+-- The rules of RFC 5280 for lists of revoked certificates beyond the grammar: each rule is a test that is true if the list breaks it.
 use Rattle.std.specs.Prelude.{◌≡◌, ℕ, ◌==◌, List, [], ◌∷◌, length, Bool, true, false, not, ◌&&◌, ◌||◌, Option, Some, None, is_some, is_none}
 use Rattle.std.specs.List.{list_any}
 use Rattle.der_elem.specs.declared.form.Form as form
@@ -19,7 +19,7 @@ use Rattle.der_verify.specs.Shown.{AreShown}
 use Rattle.der_verify.specs.declared.rfc5280.lists.ListRule.{ListRule}
 use Rattle.der_verify.specs.declared.rfc5280.lists.ListRule.TheVariants as rule
 
--- the extensions of an entry, if it has some
+-- the extensions of an entry, if the field is present
 abbrev pub ShowsExtensions : form.Ghosts Extension → Option Extensions → Option (List Extension) → Type 0
 ShowsExtensions F None None = Unit {0}
 ShowsExtensions F (Some x) (Some items) = AreExtensions F x items
@@ -28,17 +28,17 @@ ShowsExtensions F _ _ = ⊥
 abbrev pub EntryShows : form.Ghosts Extension → RevokedCertificate → Option (List Extension) → Type 0
 EntryShows F e shown = ShowsExtensions F (entry.crl_entry_extensions e) shown
 
--- the entries, each by its extensions; none where the field is absent
+-- the entries, each by its extensions; none if the field is absent
 abbrev pub AreEntries : form.Ghosts RevokedCertificate → form.Ghosts Extension → Option (ListRef RevokedCertificate) → List (Option (List Extension)) → Type 0
 AreEntries R F None entries = entries ≡ []
 AreEntries R F (Some l) entries = AreShown R (EntryShows F) (list_ref.octets_of l) entries
 
--- the list stands there, and has no entries
+-- the list of revoked certificates is present and has no entries
 abbrev pub is_empty_list : Option (ListRef RevokedCertificate) → Bool
 is_empty_list None = false
 is_empty_list (Some l) = length (list_ref.octets_of l) == 0
 
--- whether an extension of an entry has this identifier and is critical, or is not
+-- whether an extension of an entry has this identifier, and is critical or not as given
 abbrev pub has_criticality_within : List ℕ → Bool → Option (List Extension) → Bool
 has_criticality_within octets critical None = false
 has_criticality_within octets critical (Some items) = has_criticality octets critical items
@@ -55,7 +55,7 @@ abbrev pub is_version_2 : Option ℕ → Bool
 is_version_2 None = false
 is_version_2 (Some n) = n == 1
 
--- the extensions of the list whose criticality is fixed: the identifier, and what is not allowed
+-- the rules about the criticality of extensions of the list: the identifier, and the criticality that it must not have
 abbrev pub forbidden_of_list : ListRule → Option (List ℕ × Bool)
 forbidden_of_list rule.CrlNumberIsNotCritical = Some (id_ce 20, true)
 forbidden_of_list rule.DeltaCrlIndicatorIsCritical = Some (id_ce 27, false)
@@ -64,48 +64,48 @@ forbidden_of_list rule.FreshestCrlIsNotCritical = Some (id_ce 46, true)
 forbidden_of_list rule.AuthorityInfoAccessIsNotCritical = Some (id_pe 1, true)
 forbidden_of_list _ = None
 
--- the same of those of entries
+-- the rules about the criticality of extensions of entries
 abbrev pub forbidden_of_entry : ListRule → Option (List ℕ × Bool)
 forbidden_of_entry rule.ReasonCodeIsNotCritical = Some (id_ce 21, true)
 forbidden_of_entry rule.InvalidityDateIsNotCritical = Some (id_ce 24, true)
 forbidden_of_entry rule.CertificateIssuerIsCritical = Some (id_ce 29, false)
 forbidden_of_entry _ = None
 
--- the other rules, of a list with these extensions and these entries
+-- whether a list with these extensions and these entries breaks one of the other rules
 abbrev pub list_breaks_otherwise : ListRule → TbsCertList → List Extension → List (Option (List Extension)) → Bool
--- 5.1.2.1: extensions stand in version 2 alone
+-- 5.1.2.1: only version 2 has extensions
 list_breaks_otherwise rule.ExtensionsInVersion2 c listed entries = (is_some (tbs.crl_extensions c) || entry_has_extensions entries) && not (is_version_2 (tbs.version c))
 -- 5.1.2.3: the issuer is not empty
 list_breaks_otherwise rule.IssuerIsNotEmpty c listed entries = is_empty_name (tbs.issuer c)
--- 5.1.2.5: nextUpdate is there
+-- 5.1.2.5: nextUpdate is present
 list_breaks_otherwise rule.NextUpdateIsThere c listed entries = is_none (tbs.next_update c)
 -- 5.1.2.6: "When there are no revoked certificates, the revoked certificates list MUST be absent."
 list_breaks_otherwise rule.EmptyListIsAbsent c listed entries = is_empty_list (tbs.revoked_certificates c)
--- 5.2, 4.2: each extension stands once
+-- 5.2, 4.2: no extension is repeated
 list_breaks_otherwise rule.ExtensionsStandOnce c listed entries = has_repeated listed
 list_breaks_otherwise _ c listed entries = false
 
--- an extension of an entry that is not allowed stands there
+-- whether an extension of an entry has a criticality that a rule forbids
 abbrev pub entry_breaks_criticality : Option (List ℕ × Bool) → List (Option (List Extension)) → Bool
 entry_breaks_criticality None entries = false
 entry_breaks_criticality (Some (octets, critical)) entries = entry_has_criticality octets critical entries
 
--- whether the part that is signed breaks a rule
+-- whether the signed part breaks a rule
 abbrev pub list_breaks_within : ListRule → TbsCertList → List Extension → List (Option (List Extension)) → Bool
 list_breaks_within r c listed entries =
     list_breaks_otherwise r c listed entries || breaks_criticality (forbidden_of_list r) listed || entry_breaks_criticality (forbidden_of_entry r) entries
 
--- whether the algorithm within is equal to the one outside
+-- whether the signed algorithm is equal to the one outside
 abbrev pub list_same_algorithms : CertificateList → Bool
 list_same_algorithms c = equality.ghosts.eq (tbs.signature (list.tbs_cert_list c)) (list.signature_algorithm c)
 
 -- whether a list with these extensions and these entries breaks a rule
 abbrev pub list_breaks : ListRule → CertificateList → List Extension → List (Option (List Extension)) → Bool
--- 5.1.1.2, 5.1.2.2: the two algorithms are one
+-- 5.1.1.2, 5.1.2.2: the two algorithms are equal
 list_breaks rule.AlgorithmsAgree c listed entries = not (list_same_algorithms c)
 list_breaks r c listed entries = list_breaks_within r (list.tbs_cert_list c) listed entries
 
--- all rules, in the order in which they are told
+-- all rules, in the order in which `check_list` returns them
 abbrev pub list_rules : List ListRule
 list_rules =
     rule.AlgorithmsAgree

@@ -1,11 +1,11 @@
--- The sections of RFC 5280 that have the rules.
+-- The section of RFC 5280 for each rule.
 use Rattle.std.specs.Prelude.{ℕ, List, codes}
 use Rattle.der_verify.specs.declared.rfc5280.CertificateRule.{CertificateRule}
 use Rattle.der_verify.specs.declared.rfc5280.CertificateRule.TheVariants as rule
 use Rattle.der_verify.specs.declared.rfc5280.lists.ListRule.{ListRule}
 use Rattle.der_verify.specs.declared.rfc5280.lists.ListRule.TheVariants as list_rule
 
--- of a rule for certificates
+-- the section of a rule for certificates
 abbrev pub section : CertificateRule → List ℕ
 section rule.AlgorithmsAgree = codes "4.1.1.2"
 section rule.ExtensionsInVersion3 = codes "4.1.2.1"
@@ -26,7 +26,7 @@ section rule.NameConstraintsIsCritical = codes "4.2.1.10"
 section rule.PolicyConstraintsIsCritical = codes "4.2.1.11"
 section rule.InhibitAnyPolicyIsCritical = codes "4.2.1.14"
 
--- of a rule for lists of revoked certificates
+-- the section of a rule for lists of revoked certificates
 abbrev pub list_section : ListRule → List ℕ
 list_section list_rule.AlgorithmsAgree = codes "5.1.1.2"
 list_section list_rule.ExtensionsInVersion2 = codes "5.1.2.1"

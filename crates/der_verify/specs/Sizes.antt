@@ -1,4 +1,4 @@
--- How many characters the text of an attribute has, and may have (RFC 5280 appendix A.1).
+-- The number of characters that the text of an attribute has and may have (RFC 5280 appendix A.1).
 use Rattle.std.specs.Prelude.{ℕ, ◌/◌, nat_le, List, length, Bool, true, ◌&&◌, Option, Some, None}
 use Rattle.std.specs.List.{list_all}
 use Rattle.der_tlv.specs.declared.tag.Tag.{Tag}
@@ -9,7 +9,7 @@ use Rattle.der_verify.specs.Bounds.{character_count, fewest, most}
 use Rattle.der_pkix.specs.declared.name.attribute_type_and_value.AttributeTypeAndValue.{AttributeTypeAndValue}
 use Rattle.der_pkix.specs.Name.AttributeTypeAndValue as attribute
 
--- how many characters a string has, by its tag: an octet each; in UTF-8 those that begin one; two octets each; another value is no text of DirectoryString or IA5String
+-- the number of characters in a string, by its tag: one octet each; in UTF-8 the octets that begin one; two octets each; another value is no text of DirectoryString or IA5String
 abbrev pub characters : Tag → List ℕ → Option ℕ
 characters tags.PrintableString octets = Some (length octets)
 characters tags.Ia5String octets = Some (length octets)
@@ -18,7 +18,7 @@ characters tags.Utf8String octets = Some (character_count octets)
 characters tags.BmpString octets = Some (length octets / 2)
 characters _ octets = None
 
--- what is no such text has no bound
+-- a value that is no such text has no bound
 abbrev pub may_be : List ℕ → Option ℕ → Bool
 may_be type None = true
 may_be type (Some n) = nat_le (fewest type) n && nat_le n (most type)
@@ -27,7 +27,7 @@ may_be type (Some n) = nat_le (fewest type) n && nat_le n (most type)
 abbrev pub size_holds : AttributeTypeAndValue → Bool
 size_holds a = may_be (octets_of (attribute.type_ a)) (characters (tag_of (attribute.value a)) (contents_of (attribute.value a)))
 
--- and so each of a part, and of a name
+-- the text of each attribute of a part, or of a name, has a size that its type allows
 abbrev pub sizes_hold_of : List AttributeTypeAndValue → Bool
 sizes_hold_of = list_all size_holds
 

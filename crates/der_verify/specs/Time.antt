@@ -8,12 +8,12 @@ use Rattle.der_pkix.specs.declared.certificate.time.Time.TheVariants.{UtcTime, G
 use Rattle.der_pkix.specs.declared.certificate.validity.Validity.{Validity}
 use Rattle.der_pkix.specs.Certificate.Validity as validity
 
--- the date and time that a Time is of
+-- the date and time of a Time
 abbrev pub date_time_of : Time → DateTime
 date_time_of (UtcTime t) = t.date_time
 date_time_of (GeneralTime t) = t.date_time
 
--- the form that the profile asks for
+-- the form that the profile requires
 abbrev pub HasForm : DateTime → Time → Type 0
 HasForm at (UtcTime t) = (t.date_time ≡ at) × (at.year ≤ 2049)
 HasForm at (GeneralTime t) = (t.date_time ≡ at) × (2049 < at.year)

@@ -1,12 +1,13 @@
-//! How many characters the text of an attribute of a name may have (RFC 5280 appendix A.1).
+//! The number of characters that the text of an attribute of a name may have (RFC 5280 appendix
+//! A.1).
 
 ghost use Rattle.std.specs.Prelude.{◌≡◌, nat_le, ◌&&◌};
 ghost use Rattle.der_verify.specs.Bounds.{character_count, fewest, is_id_at, most};
 
 use der_pkix::name::constants::{ID_DOMAIN_COMPONENT, ID_EMAIL_ADDRESS};
 
-/// Whether the text of an attribute of this type may have so many characters, by the bounds of RFC 5280
-/// appendix A.1; of a type that has none there, from 1 to 4294967295.
+/// Returns whether the text of an attribute of this type may have this number of characters, by
+/// the bounds of RFC 5280 appendix A.1. A type with no bound there may have 1 to 4294967295.
 ///
 /// commonName (55 04 03) has 1 to 64 characters, countryName (55 04 06) has 2.
 pub fn may_have(type_: &[u8], characters: usize) -> bool
@@ -15,7 +16,7 @@ pub fn may_have(type_: &[u8], characters: usize) -> bool
     fewest(type_) <= characters && characters <= most(type_)
 }
 
-/// The fewest characters of the text of an attribute.
+/// Returns the fewest characters of the text of an attribute.
 #[tactic(auto, unfolding(crate::specs::Bounds::fewest))]
 fn fewest(type_: &[u8]) -> usize
     ensures { result ≡ fewest type_.now }
@@ -29,7 +30,7 @@ fn fewest(type_: &[u8]) -> usize
     }
 }
 
-/// The most characters of the text of an attribute.
+/// Returns the most characters of the text of an attribute.
 #[tactic(auto, unfolding(crate::specs::Bounds::most))]
 fn most(type_: &[u8]) -> usize
     ensures { result ≡ most type_.now }
@@ -49,7 +50,7 @@ fn most(type_: &[u8]) -> usize
     }
 }
 
-/// Whether an identifier is 2.5.4 and one of these numbers.
+/// Returns whether an identifier is 2.5.4 and one of these numbers.
 #[tactic(auto, unfolding(crate::specs::Bounds::is_id_at))]
 fn is_id_at(numbers: &[u8], type_: &[u8]) -> bool
     ensures { result ≡ is_id_at numbers.now type_.now }
@@ -64,7 +65,7 @@ fn is_id_at(numbers: &[u8], type_: &[u8]) -> bool
     false
 }
 
-/// How many characters a text in UTF-8 has.
+/// Returns the number of characters in a text in UTF-8.
 pub fn character_count(text: &[u8]) -> usize
     ensures { result ≡ character_count text.now }
 {

@@ -14,10 +14,11 @@ use der_pkix::certificate::{Extension, Extensions};
 use der_tlv::{Error, Tag};
 use std::alloc::Global;
 
-/// The extension whose identifier has these contents octets, if there is one: 55 1D 0F of keyUsage.
+/// Returns the extension whose identifier has these contents octets, such as 55 1D 0F for
+/// keyUsage, if one has it.
 ///
 /// # Errors
-/// `ErrorKind::Value` (13) with the tag of SEQUENCE where there are two or more.
+/// `ErrorKind::Value` (13) with the tag of SEQUENCE if two or more have it.
 pub fn find_extension<'a>(
     alloc: Global,
     extensions: &Extensions<'a>,
@@ -42,14 +43,15 @@ pub fn find_extension<'a>(
     Ok(None)
 }
 
-/// Whether the identifier of an extension has these contents octets.
+/// Returns whether the identifier of an extension has these contents octets.
 pub(crate) fn has_identifier(extension: &Extension<'_>, identifier: &[u8]) -> bool
     ensures { result ≡ has_identifier identifier.now extension.now }
 {
     extension.extn_id().as_bytes() == identifier
 }
 
-/// Whether one of the extensions to come has an identifier with these contents octets.
+/// Returns whether one of the extensions that are left has an identifier with these contents
+/// octets.
 pub(crate) fn one_has<'a>(extensions: ItemIter<'a, Extension<'a>>, identifier: &[u8]) -> bool
     ensures { (items : List Extension) → AreToCome ⟦<Extension<'a> as Form>⟧ extensions.entry items
         → result ≡ list_any (has_identifier identifier.now) items }
@@ -57,7 +59,7 @@ pub(crate) fn one_has<'a>(extensions: ItemIter<'a, Extension<'a>>, identifier: &
     one_passes(extensions, &HasIdentifier { identifier })
 }
 
-/// That an extension has this identifier.
+/// The test that an extension has this identifier.
 #[derive(Drop)]
 struct HasIdentifier<'b> {
     identifier: &'b [u8],

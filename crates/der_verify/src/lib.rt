@@ -1,5 +1,5 @@
-//! Helpers for verifying: the octets that a signature covers, an extension by its identifier, and what
-//! RFC 5280 asks beyond the grammar.
+//! Helpers for verifying certificates: the octets that a signature covers, an extension by its
+//! identifier, and the rules of RFC 5280 beyond the grammar.
 #![tactic(auto)]
 
 mod bounds;

@@ -1,6 +1,7 @@
-//! Names compared as RFC 5280 section 7.1 says: "Two distinguished names DN1 and DN2 match if they have
-//! the same number of RDNs, for each RDN in DN1 there is a matching RDN in DN2, and the matching RDNs
-//! appear in the same order in both DNs." Text beyond the characters 20 to 7E is compared exactly.
+//! Names compared as RFC 5280 section 7.1 requires: "Two distinguished names DN1 and DN2 match if
+//! they have the same number of RDNs, for each RDN in DN1 there is a matching RDN in DN2, and the
+//! matching RDNs appear in the same order in both DNs." Text with characters outside 20 to 7E is
+//! compared exactly.
 
 mod text;
 
@@ -20,11 +21,12 @@ use der_tlv::Tag;
 use std::alloc::Global;
 use text::same_text;
 
-/// Whether two names match (RFC 5280 section 7.1): they have as many parts, and each matches the one
-/// in its place.
+/// Returns whether two names match (RFC 5280 section 7.1): they have the same number of parts,
+/// and each part matches the one at its index.
 ///
-/// Two parts match where they have as many attributes, and each attribute of either matches one of the
-/// other; two attributes, where their types are equal and their values match (`values_match`).
+/// Two parts match if they have the same number of attributes, and each attribute of either
+/// matches one of the other. Two attributes match if their types are equal and their values match
+/// (`values_match`).
 pub fn names_match<'a>(alloc: Global, first: &Name<'a>, second: &Name<'a>) -> bool
     ensures { (parts others : List (List AttributeTypeAndValue))
         → AreParts ⟦<RelativeDistinguishedName<'a> as Form>⟧ ⟦<AttributeTypeAndValue<'a> as Form>⟧ first.now parts
@@ -38,9 +40,9 @@ pub fn names_match<'a>(alloc: Global, first: &Name<'a>, second: &Name<'a>) -> bo
     )
 }
 
-/// Whether two values match: PrintableStrings and UTF8Strings of the characters 20 to 7E, where they
-/// are the same but for the case of letters, for spaces before and after, and for how many spaces
-/// stand together; any other values, where they are equal.
+/// Returns whether two values match. PrintableStrings and UTF8Strings of the characters 20 to 7E
+/// match if they differ only in case, in spaces at the front and the end, and in the length of
+/// runs of spaces. Any other values match if they are equal.
 ///
 /// 13 04 4D 49 4C 4C matches 0C 05 20 6D 69 6C 6C.
 pub fn values_match(first: &AnyRef<'_>, second: &AnyRef<'_>) -> bool
@@ -53,7 +55,7 @@ pub fn values_match(first: &AnyRef<'_>, second: &AnyRef<'_>) -> bool
     }
 }
 
-/// That two parts match.
+/// The test that two parts match.
 #[derive(Drop)]
 struct SamePart {
     alloc: Global,
@@ -86,7 +88,7 @@ impl<'a> PairTest<RelativeDistinguishedName<'a>> for SamePart {
     ghost respects = { λ p. same_attributes ⟦<AttributeTypeAndValue<'a> as Form>⟧ };
 }
 
-/// Whether two parts have as many attributes.
+/// Returns whether two parts have the same number of attributes.
 fn are_as_many<'a>(
     alloc: Global,
     attributes: &SetRef<'a, AttributeTypeAndValue<'a>>,
@@ -100,7 +102,7 @@ fn are_as_many<'a>(
     pairs_pass(attributes.iter(alloc), others.iter(alloc), &AnyTwo)
 }
 
-/// A test that any two attributes pass, so that lists pass it which have as many of them.
+/// A test that any two attributes pass, so that two lists pass it if they have the same length.
 struct AnyTwo;
 
 impl<'a> PairTest<AttributeTypeAndValue<'a>> for AnyTwo {
@@ -125,7 +127,7 @@ impl<'a> PairTest<AttributeTypeAndValue<'a>> for AnyTwo {
     ghost respects = { λ p v w x. encodes_too ⟦<AttributeTypeAndValue<'a> as Form>⟧ v w x };
 }
 
-/// Whether each attribute matches one of the others.
+/// Returns whether each attribute matches one of the others.
 fn all_match<'a>(
     alloc: Global,
     attributes: &SetRef<'a, AttributeTypeAndValue<'a>>,
@@ -139,7 +141,7 @@ fn all_match<'a>(
     all_pass(attributes.iter(alloc), &MatchesOne { alloc, others })
 }
 
-/// That an attribute matches one of these.
+/// The test that an attribute matches one of these.
 #[derive(Drop)]
 struct MatchesOne<'a, 'b> {
     alloc: Global,
@@ -155,7 +157,7 @@ impl<'a, 'b> ShownTest<AttributeTypeAndValue<'a>> for MatchesOne<'a, 'b> {
     ghost use Rattle.der_verify.specs.Names.{same_attribute};
     ghost use Rattle.der_verify.specs.Shown.{Encodes, encodes_beside};
 
-    // an attribute, and these
+    // an attribute, and the others
     ghost Shown = { AttributeTypeAndValue × List AttributeTypeAndValue };
 
     ghost shows = { λ p v x. Encodes ⟦<AttributeTypeAndValue<'a> as Form>⟧ v x.0 × AreItems ⟦<AttributeTypeAndValue<'a> as Form>⟧ (set.octets_of p.others.now) x.1 };
@@ -172,7 +174,7 @@ impl<'a, 'b> ShownTest<AttributeTypeAndValue<'a>> for MatchesOne<'a, 'b> {
     ghost respects = { λ p v w x. encodes_beside ⟦<AttributeTypeAndValue<'a> as Form>⟧ v w x.0 (AreItems ⟦<AttributeTypeAndValue<'a> as Form>⟧ (set.octets_of p.others.now) x.1) };
 }
 
-/// That an attribute matches this one.
+/// The test that an attribute matches this one.
 #[derive(Drop)]
 struct SameAttribute<'a, 'b> {
     attribute: &'b AttributeTypeAndValue<'a>,
@@ -196,7 +198,7 @@ impl<'a, 'b> ShownTest<AttributeTypeAndValue<'a>> for SameAttribute<'a, 'b> {
     ghost respects = { λ p v w x. encodes_too ⟦<AttributeTypeAndValue<'a> as Form>⟧ v w x };
 }
 
-/// Whether two attributes match.
+/// Returns whether two attributes match.
 fn attributes_match(first: &AttributeTypeAndValue<'_>, second: &AttributeTypeAndValue<'_>) -> bool
     ensures { result ≡ same_attribute first.now second.now }
 {
@@ -204,14 +206,14 @@ fn attributes_match(first: &AttributeTypeAndValue<'_>, second: &AttributeTypeAnd
         && values_match(first.value(), second.value())
 }
 
-/// Whether a value is text that is compared without case.
+/// Returns whether a value is text that is compared without case.
 fn is_text(value: &AnyRef<'_>) -> bool
     ensures { result ≡ is_text value.now }
 {
     has_text_tag(value.header().tag) && are_visible(value.value())
 }
 
-/// Whether a tag is that of a PrintableString or of a UTF8String.
+/// Returns whether a tag is that of a PrintableString or of a UTF8String.
 fn has_text_tag(tag: Tag) -> bool
     ensures { result ≡ is_text_tag tag }
 {
@@ -222,7 +224,7 @@ fn has_text_tag(tag: Tag) -> bool
     }
 }
 
-/// Whether octets are all characters of ASCII that are seen, or spaces.
+/// Returns whether all octets are visible characters of ASCII or spaces.
 fn are_visible(octets: &[u8]) -> bool
     ensures { result ≡ is_visible octets.now }
 {
@@ -236,7 +238,7 @@ fn are_visible(octets: &[u8]) -> bool
     true
 }
 
-/// Whether two values have one tag and the same contents octets.
+/// Returns whether two values have the same tag and the same contents octets.
 fn are_equal(first: &AnyRef<'_>, second: &AnyRef<'_>) -> bool
     ensures { result ≡ same_exactly first.now second.now }
 {

@@ -1,5 +1,5 @@
-//! What RFC 5280 asks of a certificate beyond its grammar (sections 4.1 and 4.2). A certificate that is
-//! read may break it; who verifies one asks here.
+//! The rules of RFC 5280 for certificates beyond the grammar (sections 4.1 and 4.2). A
+//! certificate that is read may break them; a verifier checks them here.
 
 mod lists;
 mod repeated;
@@ -72,7 +72,7 @@ pub enum CertificateRule {
     InhibitAnyPolicyIsCritical,
 }
 
-/// All rules, in the order in which `check_certificate` tells them.
+/// All rules, in the order in which `check_certificate` returns them.
 pub const CERTIFICATE_RULES: [CertificateRule; 18] = [
     CertificateRule::AlgorithmsAgree,
     CertificateRule::ExtensionsInVersion3,
@@ -94,10 +94,10 @@ pub const CERTIFICATE_RULES: [CertificateRule; 18] = [
     CertificateRule::InhibitAnyPolicyIsCritical,
 ];
 
-/// The rules that a certificate breaks, in the order of `CERTIFICATE_RULES`.
+/// Returns the rules that a certificate breaks, in the order of `CERTIFICATE_RULES`.
 ///
 /// # Errors
-/// Where memory runs out.
+/// If memory runs out.
 pub fn check_certificate<'a>(
     alloc: Global,
     certificate: &Certificate<'a>,
@@ -117,8 +117,8 @@ pub fn check_certificate<'a>(
     Ok(found)
 }
 
-/// Whether the algorithm within a certificate is the one outside (4.1.1.2, 4.1.2.3): the encodings
-/// are equal.
+/// Returns whether the signed algorithm of a certificate is the one outside (4.1.1.2, 4.1.2.3):
+/// the encodings are equal.
 pub fn algorithms_agree<'a>(certificate: &Certificate<'a>) -> bool
     ensures equal { result ≡ same_algorithms certificate.now }
     ensures encodings { IsTrue result ↔ (⟦<AlgorithmIdentifier<'a> as Form>⟧.encoding (tbs_fields.signature (certificate_fields.tbs_certificate certificate.now)) ≡ ⟦<AlgorithmIdentifier<'a> as Form>⟧.encoding (certificate_fields.signature_algorithm certificate.now)) }
@@ -127,7 +127,7 @@ pub fn algorithms_agree<'a>(certificate: &Certificate<'a>) -> bool
 }
 
 impl CertificateRule {
-    /// The section of RFC 5280 that has the rule.
+    /// Returns the section of RFC 5280 with the rule.
     pub fn section(self) -> &'static str
         ensures { result.now ≡ section self }
     {
@@ -153,11 +153,11 @@ impl CertificateRule {
         }
     }
 
-    /// The same as `is_broken`, with memory, and sooner: that each extension stands once takes some
-    /// n log n comparisons of n extensions.
+    /// Returns the result of `is_broken`, but takes memory and is faster: with n extensions, the
+    /// rule that no extension is repeated takes about n log n comparisons.
     ///
     /// # Errors
-    /// Where memory runs out.
+    /// If memory runs out.
     pub fn is_broken_in<'a>(
         self,
         alloc: Global,
@@ -175,8 +175,8 @@ impl CertificateRule {
         }
     }
 
-    /// Whether a certificate breaks the rule. That each extension stands once is seen by comparing
-    /// each of them with all behind it. It takes no memory.
+    /// Returns whether a certificate breaks the rule, and takes no memory. The rule that no
+    /// extension is repeated compares each extension with all after it.
     pub fn is_broken<'a>(self, alloc: Global, certificate: &Certificate<'a>) -> bool
         ensures { (listed : List Extension)
             → AreListed ⟦<Extension<'a> as Form>⟧ (tbs_fields.extensions (certificate_fields.tbs_certificate certificate.now)) listed
@@ -188,7 +188,7 @@ impl CertificateRule {
         }
     }
 
-    /// Whether the part of a certificate that is signed breaks the rule.
+    /// Returns whether the signed part of a certificate breaks the rule.
     fn is_broken_within<'a>(self, alloc: Global, certificate: &TbsCertificate<'a>) -> bool
         ensures { (listed : List Extension) → AreListed ⟦<Extension<'a> as Form>⟧ (tbs_fields.extensions certificate.now) listed
             → result ≡ breaks_within self certificate.now listed }
@@ -201,8 +201,8 @@ impl CertificateRule {
         }
     }
 
-    /// The identifier of the extension that the rule is about, and the criticality that it may not
-    /// have.
+    /// Returns the identifier of the extension that the rule is about, and the criticality that
+    /// it must not have.
     fn forbidden(self) -> Option<(&'static [u8], bool)>
         ensures { seen_forbidden result ≡ forbidden self }
     {
@@ -235,7 +235,7 @@ impl CertificateRule {
         }
     }
 
-    /// Whether a certificate breaks a rule that is about more than criticality.
+    /// Returns whether a certificate breaks a rule that is about more than criticality.
     fn is_broken_otherwise<'a>(self, alloc: Global, certificate: &TbsCertificate<'a>) -> bool
         ensures { (listed : List Extension) → AreListed ⟦<Extension<'a> as Form>⟧ (tbs_fields.extensions certificate.now) listed
             → result ≡ breaks_otherwise self certificate.now listed }
@@ -271,7 +271,7 @@ impl CertificateRule {
     }
 }
 
-/// Whether contents octets are those of a positive INTEGER.
+/// Returns whether contents octets are those of a positive INTEGER.
 fn is_positive_integer(octets: &[u8]) -> bool
     ensures { result ≡ is_positive octets.now }
 {
@@ -281,21 +281,21 @@ fn is_positive_integer(octets: &[u8]) -> bool
     }
 }
 
-/// Whether a name has no attributes.
+/// Returns whether a name has no attributes.
 fn is_empty_name(name: &Name<'_>) -> bool
     ensures { result ≡ is_empty_name name.now }
 {
     name.items().is_empty()
 }
 
-/// Whether a certificate has one of the two unique identifiers.
+/// Returns whether a certificate has one of the two unique identifiers.
 fn has_unique_identifier(certificate: &TbsCertificate<'_>) -> bool
     ensures { result ≡ (is_some (tbs_fields.issuer_unique_id certificate.now) || is_some (tbs_fields.subject_unique_id certificate.now)) }
 {
     certificate.issuer_unique_id().is_some() || certificate.subject_unique_id().is_some()
 }
 
-/// Whether an extension of a certificate has this identifier and is critical, or is not.
+/// Returns whether an extension of a certificate has this identifier and this criticality.
 fn has_criticality_in<'a>(
     alloc: Global,
     certificate: &TbsCertificate<'a>,
@@ -311,7 +311,7 @@ fn has_criticality_in<'a>(
     }
 }
 
-/// Whether an extension with this identifier is there that is critical, or that is not.
+/// Returns whether one of the extensions has this identifier and this criticality.
 fn has_criticality_of<'a>(
     alloc: Global,
     extensions: &ListRef<'a, Extension<'a>>,
@@ -328,14 +328,14 @@ fn has_criticality_of<'a>(
     one_passes(extensions.iter(alloc), &test)
 }
 
-/// Whether an extension has this identifier and is critical, or is not.
+/// Returns whether an extension has this identifier and this criticality.
 fn is_so_critical(extension: &Extension<'_>, identifier: &[u8], critical: bool) -> bool
     ensures { result ≡ is_so_critical identifier.now critical extension.now }
 {
     has_identifier(extension, identifier) && extension.critical() == critical
 }
 
-/// That an extension has this identifier and is critical, or is not.
+/// The test that an extension has this identifier and this criticality.
 #[derive(Drop)]
 struct HasCriticality<'b> {
     identifier: &'b [u8],
@@ -360,7 +360,7 @@ impl<'a, 'b> ShownTest<Extension<'a>> for HasCriticality<'b> {
     ghost respects = { λ p v w x. encodes_too ⟦<Extension<'a> as Form>⟧ v w x };
 }
 
-/// Whether two extensions have one identifier.
+/// Returns whether two extensions have the same identifier.
 fn has_repeated_one<'a>(alloc: Global, extensions: &ListRef<'a, Extension<'a>>) -> bool
     ensures { (items : List Extension) → AreItems ⟦<Extension<'a> as Form>⟧ (list_ref.octets_of extensions.now) items
         → result ≡ has_repeated items }
@@ -380,7 +380,7 @@ fn has_repeated_one<'a>(alloc: Global, extensions: &ListRef<'a, Extension<'a>>) 
     false
 }
 
-/// Whether basicConstraints of a CA is there that is not critical.
+/// Returns whether there is a basicConstraints of a CA that is not critical.
 fn has_uncritical_ca<'a>(alloc: Global, extensions: &ListRef<'a, Extension<'a>>) -> bool
     ensures { (items : List Extension) → AreItems ⟦<Extension<'a> as Form>⟧ (list_ref.octets_of extensions.now) items
         → result ≡ list_any is_uncritical_ca items }
@@ -388,7 +388,7 @@ fn has_uncritical_ca<'a>(alloc: Global, extensions: &ListRef<'a, Extension<'a>>)
     one_passes(extensions.iter(alloc), &IsUncriticalCa)
 }
 
-/// That an extension is basicConstraints of a CA that is not critical.
+/// The test that an extension is basicConstraints of a CA and is not critical.
 struct IsUncriticalCa;
 
 impl<'a> ShownTest<Extension<'a>> for IsUncriticalCa {
@@ -409,7 +409,7 @@ impl<'a> ShownTest<Extension<'a>> for IsUncriticalCa {
     ghost respects = { λ p v w x. encodes_too ⟦<Extension<'a> as Form>⟧ v w x };
 }
 
-/// Whether an extension is basicConstraints of a CA that is not critical.
+/// Returns whether an extension is basicConstraints of a CA and is not critical.
 fn is_uncritical(extension: &Extension<'_>) -> bool
     ensures { result ≡ is_uncritical_ca extension.now }
 {
@@ -418,7 +418,7 @@ fn is_uncritical(extension: &Extension<'_>) -> bool
         && is_ca(extension.extn_value().as_bytes())
 }
 
-/// Whether the octets of BasicConstraints say that cA is TRUE: 30, a length, 01 01 FF.
+/// Returns whether the octets of BasicConstraints say that cA is TRUE: 30, a length, 01 01 FF.
 fn is_ca(octets: &[u8]) -> bool
     ensures { result ≡ says_true octets.now }
 {

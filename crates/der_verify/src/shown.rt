@@ -1,4 +1,4 @@
-//! Tests of what the items of a list show, such as the attributes of a part of a name.
+//! Tests of the values that the items of a list show, such as the attributes of a part of a name.
 
 ghost use Rattle.std.specs.Prelude.{◌≡◌, List, false};
 ghost use Rattle.std.specs.Cmp.Lexicographic.{pointwise};
@@ -12,7 +12,7 @@ use der_pkix::crl::RevokedCertificate;
 use der_pkix::name::AttributeTypeAndValue;
 use der_tlv::SliceReader;
 
-/// What a type means, by a name that invariants can cite.
+/// The meaning of a type, by a name that invariants can cite.
 pub(crate) trait Meant<T> {
     ghost use Rattle.der_elem.specs.declared.form.Form as form;
 
@@ -34,19 +34,19 @@ impl<'a> Meant<RevokedCertificate<'a>> for Meanings {
     ghost FORM = { ⟦<RevokedCertificate<'a> as Form>⟧ };
 }
 
-/// A test of what an item shows: items with one encoding show the same.
+/// A test of the value that an item shows: items with the same encoding show the same value.
 pub(crate) trait ShownTest<T: Form> {
     ghost use Rattle.std.specs.Prelude.{Bool};
 
-    // what is tested
+    // the value that is tested
     ghost Shown: { Type 0 };
 
-    // what an item shows
+    // the values that an item shows
     ghost shows: { Self → T → Shown → Type 0 };
 
     ghost passes: { Self → Shown → Bool };
 
-    /// Whether what an item shows passes.
+    /// Returns whether the value that an item shows passes.
     fn passes(&self, item: &T) -> bool
         ensures { (shown : Self.Shown) → Self.shows self.now item.now shown
             → result ≡ Self.passes self.now shown };
@@ -55,7 +55,7 @@ pub(crate) trait ShownTest<T: Form> {
         → Self.shows p v shown → Self.shows p w shown };
 }
 
-/// Whether one of the items to come passes a test.
+/// Returns whether one of the items that are left passes a test.
 pub(crate) fn one_passes<'a, T: Decode<'a, SliceReader<'a>> + Choice, P: ShownTest<T>>(
     items: ItemIter<'a, T>,
     test: &P,
@@ -76,7 +76,7 @@ pub(crate) fn one_passes<'a, T: Decode<'a, SliceReader<'a>> + Choice, P: ShownTe
     false
 }
 
-/// Whether each of the items to come passes a test.
+/// Returns whether each of the items that are left passes a test.
 pub(crate) fn all_pass<'a, T: Decode<'a, SliceReader<'a>> + Choice, P: ShownTest<T>>(
     items: ItemIter<'a, T>,
     test: &P,
@@ -97,19 +97,19 @@ pub(crate) fn all_pass<'a, T: Decode<'a, SliceReader<'a>> + Choice, P: ShownTest
     true
 }
 
-/// A test of what two items show.
+/// A test of the values that two items show.
 pub(crate) trait PairTest<T: Form> {
     ghost use Rattle.std.specs.Prelude.{Bool};
 
-    // what is tested
+    // the value that is tested
     ghost Shown: { Type 0 };
 
-    // what an item shows
+    // the values that an item shows
     ghost shows: { Self → T → Shown → Type 0 };
 
     ghost passes: { Self → Shown → Shown → Bool };
 
-    /// Whether what two items show passes.
+    /// Returns whether the values that two items show pass.
     fn passes(&self, item: &T, other: &T) -> bool
         ensures { (x y : Self.Shown) → Self.shows self.now item.now x → Self.shows self.now other.now y
             → result ≡ Self.passes self.now x y };
@@ -118,7 +118,8 @@ pub(crate) trait PairTest<T: Form> {
         → Self.shows p v shown → Self.shows p w shown };
 }
 
-/// Whether two lists have as many items to come, and each passes a test with the one in its place.
+/// Returns whether two lists have the same number of items left, and each pair at the same index
+/// passes a test.
 pub(crate) fn pairs_pass<'a, T: Decode<'a, SliceReader<'a>> + Choice, P: PairTest<T>>(
     first: ItemIter<'a, T>,
     second: ItemIter<'a, T>,

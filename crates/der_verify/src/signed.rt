@@ -1,7 +1,8 @@
-//! The octets that a signature covers (RFC 5280 4.1.1.3 and 5.1.1.3): the encoding of the first field of
-//! a message, as it came.
+//! The octets that a signature covers (RFC 5280 4.1.1.3 and 5.1.1.3): the encoding of the first
+//! field of a message, as it came.
 //!
-//! Of a certificate 30 82 .. 30 82 .. they begin at the second 30, and end where the algorithm begins.
+//! In a certificate 30 82 .. 30 82 .. they begin at the second 30, and end where the algorithm
+//! begins.
 
 ghost use Rattle.std.specs.Prelude.{◌≡◌, ◌<◌, ◌^◌, List, ℕ, length, IsOkAnd};
 ghost use Rattle.der_tlv.specs.declared.encoding_rules.EncodingRules.TheVariants.{Der};
@@ -24,7 +25,7 @@ use der_pkix::certificate::{Certificate, TbsCertificate};
 use der_pkix::crl::{CertificateList, TbsCertList};
 use der_tlv::{Error, Header, Reader, SliceReader};
 
-/// The encoding that the octets begin with, and its contents octets.
+/// Returns the encoding at the front of the octets, and its contents octets.
 fn front<'a>(octets: &'a [u8]) -> Result<(&'a [u8], &'a [u8]), Error>
     ensures { (t : Tag) → (c others : List ℕ) → BeginsWith octets.now t c others
         → IsOkAnd result (λ found. (found.0.now ≡ tlv t c) × (found.1.now ≡ c)) }
@@ -48,8 +49,8 @@ fn front<'a>(octets: &'a [u8]) -> Result<(&'a [u8], &'a [u8]), Error>
     }
 }
 
-/// The encoding that stands first among the contents octets of an encoding: of a SEQUENCE the first
-/// field, as it came.
+/// Returns the first encoding in the contents octets of an encoding, as it came: the first field
+/// of a SEQUENCE.
 pub fn first_field<'a>(octets: &'a [u8]) -> Result<&'a [u8], Error>
     ensures { (t u : Tag) → (c others : List ℕ) → HasFirst octets.now t u c others
         → IsOkAnd result (λ found. found.now ≡ tlv u c) }
@@ -64,12 +65,12 @@ pub fn first_field<'a>(octets: &'a [u8]) -> Result<&'a [u8], Error>
     }
 }
 
-/// The octets that the signature of a certificate covers, a part of its own octets: those of
-/// tbsCertificate (RFC 5280 4.1.1.3). Of octets that are no certificate the answer may be any;
-/// `from_der` says whether they are one.
+/// Returns the octets that the signature of a certificate covers, as a slice of its octets: the
+/// encoding of tbsCertificate (RFC 5280 4.1.1.3). For octets that are no certificate, the result
+/// may be any octets; `from_der` checks that they are one.
 ///
 /// # Errors
-/// The first fault of the two headers; `ErrorKind::Overflow` (9) for more than 4294967295 octets.
+/// The first error in the two headers; `ErrorKind::Overflow` (9) for more than 4294967295 octets.
 pub fn octets_of_tbs_certificate<'a>(octets: &'a [u8]) -> Result<&'a [u8], Error>
     ensures read { (v : Certificate) → ⟦<Certificate<'a> as Form>⟧.accepts Der v octets.now → length octets.now < 2 ^ 32
         → IsOkAnd result (λ signed. ReadsFirst (⟦<TbsCertificate<'a> as Form>⟧.accepts Der (certificate_fields.tbs_certificate v)) octets.now signed.now) }
@@ -79,10 +80,11 @@ pub fn octets_of_tbs_certificate<'a>(octets: &'a [u8]) -> Result<&'a [u8], Error
     first_field(octets)
 }
 
-/// The same of a list of revoked certificates: those of tbsCertList (RFC 5280 5.1.1.3).
+/// Returns the octets that the signature of a list of revoked certificates covers: the encoding
+/// of tbsCertList (RFC 5280 5.1.1.3).
 ///
 /// # Errors
-/// As `octets_of_tbs_certificate`.
+/// The errors of `octets_of_tbs_certificate`.
 pub fn octets_of_tbs_cert_list<'a>(octets: &'a [u8]) -> Result<&'a [u8], Error>
     ensures read { (v : CertificateList) → ⟦<CertificateList<'a> as Form>⟧.accepts Der v octets.now → length octets.now < 2 ^ 32
         → IsOkAnd result (λ signed. ReadsFirst (⟦<TbsCertList<'a> as Form>⟧.accepts Der (certificate_list_fields.tbs_cert_list v)) octets.now signed.now) }
@@ -92,10 +94,11 @@ pub fn octets_of_tbs_cert_list<'a>(octets: &'a [u8]) -> Result<&'a [u8], Error>
     first_field(octets)
 }
 
-/// The same of a request for a certificate: those of certificationRequestInfo (RFC 2986 4.2).
+/// Returns the octets that the signature of a request for a certificate covers: the encoding of
+/// certificationRequestInfo (RFC 2986 4.2).
 ///
 /// # Errors
-/// As `octets_of_tbs_certificate`.
+/// The errors of `octets_of_tbs_certificate`.
 pub fn octets_of_certification_request_info<'a>(octets: &'a [u8]) -> Result<&'a [u8], Error>
     ensures read { (v : CertificationRequest) → ⟦<CertificationRequest<'a> as Form>⟧.accepts Der v octets.now → length octets.now < 2 ^ 32
         → IsOkAnd result (λ signed. ReadsFirst (⟦<CertificationRequestInfo<'a> as Form>⟧.accepts Der (request_fields.certification_request_info v)) octets.now signed.now) }
@@ -105,10 +108,11 @@ pub fn octets_of_certification_request_info<'a>(octets: &'a [u8]) -> Result<&'a 
     first_field(octets)
 }
 
-/// The same of an answer about the status of certificates: those of tbsResponseData (RFC 6960 4.2.1).
+/// Returns the octets that the signature of an OCSP response covers: the encoding of
+/// tbsResponseData (RFC 6960 4.2.1).
 ///
 /// # Errors
-/// As `octets_of_tbs_certificate`.
+/// The errors of `octets_of_tbs_certificate`.
 pub fn octets_of_tbs_response_data<'a>(octets: &'a [u8]) -> Result<&'a [u8], Error>
     ensures read { (v : BasicOcspResponse) → ⟦<BasicOcspResponse<'a> as Form>⟧.accepts Der v octets.now → length octets.now < 2 ^ 32
         → IsOkAnd result (λ signed. ReadsFirst (⟦<ResponseData<'a> as Form>⟧.accepts Der (answer_fields.tbs_response_data v)) octets.now signed.now) }

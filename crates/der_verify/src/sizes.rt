@@ -1,5 +1,5 @@
-//! How many characters the texts of a name have: the bounds of RFC 5280 appendix A.1 (SIZE), which are
-//! beyond the grammar of a name.
+//! The number of characters in the texts of a name: the bounds of RFC 5280 appendix A.1 (SIZE),
+//! which are beyond the grammar of a name.
 
 ghost use Rattle.std.specs.Prelude.{◌≡◌, List};
 ghost use Rattle.der_opaque.specs.AnyRef.{contents_of, tag_of};
@@ -15,12 +15,13 @@ use der_pkix::name::{AttributeTypeAndValue, Name, RelativeDistinguishedName};
 use der_tlv::Tag;
 use std::alloc::Global;
 
-/// Whether each text of a name has a number of characters that RFC 5280 appendix A.1 allows for the
-/// type of its attribute: commonName 1 to 64, countryName 2, localityName 1 to 128, emailAddress 1 to
-/// 255, and so on; that of a type with no bound there has 1 at least, but for dnQualifier and
-/// domainComponent. What is neither of the strings of DirectoryString nor an IA5String has no bound.
+/// Returns whether each text of a name has a number of characters that RFC 5280 appendix A.1
+/// allows for the type of its attribute: commonName 1 to 64, countryName 2, localityName 1 to
+/// 128, emailAddress 1 to 255, and so on. A text whose type has no bound there has at least 1,
+/// except for dnQualifier and domainComponent. A value that is neither one of the strings of
+/// DirectoryString nor an IA5String has no bound.
 ///
-/// A name with commonName of 65 characters is read, and breaks this.
+/// A name with a commonName of 65 characters is read, but the result is false.
 pub fn sizes_hold<'a>(alloc: Global, name: &Name<'a>) -> bool
     ensures { (parts : List (List AttributeTypeAndValue))
         → AreParts ⟦<RelativeDistinguishedName<'a> as Form>⟧ ⟦<AttributeTypeAndValue<'a> as Form>⟧ name.now parts
@@ -29,7 +30,7 @@ pub fn sizes_hold<'a>(alloc: Global, name: &Name<'a>) -> bool
     all_pass(name.items().iter(alloc), &PartSizesHold { alloc })
 }
 
-/// Whether the text of an attribute has a number of characters that its type allows.
+/// Returns whether the text of an attribute has a number of characters that its type allows.
 pub fn size_holds(attribute: &AttributeTypeAndValue<'_>) -> bool
     ensures { result ≡ size_holds attribute.now }
 {
@@ -39,7 +40,7 @@ pub fn size_holds(attribute: &AttributeTypeAndValue<'_>) -> bool
     }
 }
 
-/// That the sizes of a part hold.
+/// The test that the sizes of a part are allowed.
 #[derive(Drop)]
 struct PartSizesHold {
     alloc: Global,
@@ -65,7 +66,7 @@ impl<'a> ShownTest<RelativeDistinguishedName<'a>> for PartSizesHold {
     ghost respects = { λ p. same_attributes ⟦<AttributeTypeAndValue<'a> as Form>⟧ };
 }
 
-/// That the size of an attribute holds.
+/// The test that the size of an attribute is allowed.
 struct SizeHolds;
 
 impl<'a> ShownTest<AttributeTypeAndValue<'a>> for SizeHolds {
@@ -86,7 +87,7 @@ impl<'a> ShownTest<AttributeTypeAndValue<'a>> for SizeHolds {
     ghost respects = { λ p v w x. encodes_too ⟦<AttributeTypeAndValue<'a> as Form>⟧ v w x };
 }
 
-/// How many characters a value has, where it is one of these strings.
+/// Returns the number of characters in a value that is one of these strings.
 fn characters(value: &AnyRef<'_>) -> Option<usize>
     ensures { result ≡ characters (tag_of value.now) (contents_of value.now) }
 {

@@ -6,8 +6,8 @@ ghost use Rattle.der_verify.specs.Time.{date_time_of, HasForm, seconds_of, is_va
 use der_pkix::certificate::{Time, Validity};
 use der_time::{DateTime, GeneralizedTime, UtcTime};
 
-/// A date in the form that RFC 5280 asks for: a UTCTime up to the year 2049, a GeneralizedTime after
-/// it.
+/// Returns a date in the form that RFC 5280 requires: a UTCTime up to the year 2049, and a
+/// GeneralizedTime after it.
 pub fn time_at(date_time: DateTime) -> Time
     ensures { HasForm date_time result }
 {
@@ -17,7 +17,7 @@ pub fn time_at(date_time: DateTime) -> Time
     }
 }
 
-/// The date and time, whatever its form.
+/// Returns the date and time of either form.
 pub fn date_time(time: Time) -> DateTime
     ensures { result ≡ date_time_of time }
 {
@@ -27,14 +27,15 @@ pub fn date_time(time: Time) -> DateTime
     }
 }
 
-/// The seconds from 1970-01-01T00:00:00Z, with no leap seconds.
+/// Returns the seconds from 1970-01-01T00:00:00Z, with no leap seconds.
 pub fn seconds(time: Time) -> u64
     ensures { result ≡ seconds_of time }
 {
     date_time(time).unix_duration().as_secs()
 }
 
-/// Whether a moment, in seconds from 1970-01-01T00:00:00Z, is within a validity. Both ends are.
+/// Returns whether a moment, in seconds from 1970-01-01T00:00:00Z, is within a validity, both
+/// ends included.
 pub fn holds_at(validity: Validity, moment: u64) -> bool
     ensures { result ≡ is_valid_at validity moment }
 {

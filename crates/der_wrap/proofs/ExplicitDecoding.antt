@@ -1,4 +1,4 @@
--- Decoding explicit tagging: its faults, and its value.
+-- Decoding explicit tagging: its errors, and its value.
 use Rattle.std.proofs.Common.{◌≡◌, ℕ, ◌+◌, ◌-◌, ◌<◌, ◌^◌, List, length, take, Bool, true, false, Result, Ok, Err, refl, sym, ap, ◌∙◌, subst, arith, inl, inr, nat_le, ◌==◌, ◌&&◌, not, eq-eqb}
 use borrow.Author.Tests.{eqb-true}
 use Rattle.std.proofs.lemmas.List.{length-drop}
@@ -23,7 +23,7 @@ use Rattle.der_wrap.specs.ClassTags.{class_tag, in_class}
 use Rattle.der_wrap.specs.TaggedValues.{all_of, one_encoding, in_explicit, explicit_with_header, parse_explicit, AcceptsExplicit}
 use Rattle.der_wrap.specs.TaggedValueLaws.{class_tag-constructed, class_tag-class}
 
--- the header's fault is that of the whole encoding
+-- an error of the header is the error of the whole encoding
 pub header_fault_explicit : {old new : ReaderState} {kind : ErrorKind} → HeadFault read_header old new kind → (bits : ℕ) (parse : Parse) (rules : EncodingRules) → unless_failed (parse_explicit bits parse rules) old ≡ Err kind
 unfolding parse_explicit
 header_fault_explicit {old} {new} {kind} fault bits parse rules = at old.failed refl
@@ -43,17 +43,17 @@ module _ {header : Header} {old mid : ReaderState} (at : AtHeader header old mid
   pub tag_fault_explicit : (kind : ErrorKind) → ((parsed : Result (ℕ × List ℕ) ErrorKind) → in_explicit bits header.tag parsed ≡ Err kind) → unless_failed (parse_explicit bits parse rules) old ≡ Err kind
   tag_fault_explicit kind refused = rw at.head.ready (parse_is ∙ refused _)
 
-  -- a tag that is taken
+  -- a tag that is accepted
   module _ (n : ℕ) (tag_is : header.tag ≡ class_tag bits true n) where
     behind : parse_explicit bits parse rules old.position (rest old) ≡ parse_after (one_encoding parse) rules old header
     behind =
         parse_is ∙ ap (λ t. in_explicit bits t (parse_after (one_encoding parse) rules old header)) tag_is ∙ rw (class_tag-constructed true n bits, class_tag-class true n bits) refl
 
-    -- contents octets longer than what is left
+    -- contents octets longer than the octets left
     pub too_long_explicit : {new : ReaderState} {kind : ErrorKind} → OctetsRefused mid new header.length kind → unless_failed (parse_explicit bits parse rules) old ≡ Err kind
     too_long_explicit refused = rw at.head.ready (behind ∙ parse_too_long at refused (one_encoding parse) rules)
 
--- a header with a tag that is taken has none of another class
+-- a header with an accepted tag has no tag of another class
 pub no_other_class : {header : Header} {old mid : ReaderState} {A : Type 0} → AtHeader header old mid → (bits n : ℕ) → header.tag ≡ class_tag bits true n → OtherHeader (in_class bits) old → A
 no_other_class at bits n tag_is other =
     let e = sym (ap (in_class bits) tag_is ∙ class_tag-class true n bits) ∙ next_is_other at other in absurd (cc)
@@ -67,7 +67,7 @@ module _ {T : Type 0} (F : form.Ghosts T) {header : Header} {old mid shown : Rea
   as_fault e =
       rw c.at.head.ready (parse_inner ∙ ap (tagged_contents header.tag (length (octets_of header) + header.length)) e)
 
-  -- the fault of the value
+  -- an error of the value
   pub value_fault_explicit : {new : ReaderState} {kind : ErrorKind} → NotDecoded F shown new kind → Faults F.TAKES_MEMORY false (unless_failed (parse_explicit bits F.parse old.rules) old) kind
   value_fault_explicit {new} {kind} told =
       elim told.reason [
@@ -124,7 +124,7 @@ module _ {T : Type 0} (F : form.Ghosts T) {header : Header} {old mid shown : Rea
     both true false d e h = absurd (cc)
     both false b d e h = absurd (cc)
 
-    -- where the end can be put back, the value takes all of the octets
+    -- if the end can be restored, the value takes all of the octets
     pub taken_all : can_unnest after end ≡ true → told.taken ≡ length (rest shown)
     taken_all possible =
         let here : (after.position == after.end) ≡ true = both (not after.failed) (after.position == after.end) (nat_le after.end end) (nat_le end (length after.input)) possible in

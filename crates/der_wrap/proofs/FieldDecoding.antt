@@ -1,4 +1,4 @@
--- Decoding a field that may be absent, after a tag of its class and number.
+-- Decoding a field that may be absent, by a tag of its class and number.
 use Rattle.std.proofs.Common.{◌≡◌, ℕ, ◌+◌, ◌<◌, ◌^◌, List, [], ◌∷◌, ◌++◌, length, take, drop, Bool, true, false, Result, Ok, Err, refl, sym, ap, ◌∙◌, subst, append_assoc, ◌==◌}
 use Rattle.std.specs.Prelude.{IsOk}
 use borrow.Author.Tests.{eqb-true}
@@ -23,7 +23,7 @@ use Rattle.der_wrap.specs.TaggedValues.{parse_optional_field, parse_explicit, ta
 use Rattle.der_wrap.specs.ClassTags.{class_of_bits, class_tag}
 use Rattle.der_wrap.specs.TaggedValueLaws.{class_tag-number, class_tag-with}
 
--- a tag with a class and a number is told by its form
+-- a tag with a class and a number is determined by its form
 pub class_tag-match_read : (bits n : ℕ) (t : Tag) → has_number (class_of_bits bits) n t ≡ true → t ≡ class_tag bits (is_constructed t) n
 class_tag-match_read bits n t h =
     let parts = and_parts (class_index (class_of t) == class_index (class_of_bits bits)) (number_of t == n) h in
@@ -48,17 +48,17 @@ module _ (bits n p : ℕ) where
       answer (Ok b) = b
       answer (Err k) = false
 
-  -- where the next tag has the class and number, so has the header's
+  -- if the next tag has the class and number, so has that of the header
   pub header_matched : (octets : List ℕ) (all : ℕ) (h : Header) → match_tag (class_of_bits bits) n p octets ≡ Ok true → read_header p octets ≡ Ok (all, h) → h.tag ≡ class_tag bits (is_constructed h.tag) n
   unfolding read_header
   header_matched [] all h m e = absurd (cc)
   header_matched (x ∷ xs) all h m e = class_tag-match_read bits n h.tag (matched_header (x ∷ xs) all h (read_tag p (x ∷ xs)) m e)
 
-  -- where a field is found, parsing comes to what its own parse comes to
+  -- if a field is found, its parse is that of the field itself
   pub found_field : (parse : Parse) (rules : EncodingRules) (octets : List ℕ) → match_tag (class_of_bits bits) n p octets ≡ Ok true → parse_optional_field bits n parse rules p octets ≡ parse rules p octets
   found_field parse rules octets m = rw m refl
 
--- a reader that has seen a field that was found
+-- an error of a reader that found a field
 pub found_fault : (bits n : ℕ) (s : ReaderState) → s.failed ≡ false → match_tag (class_of_bits bits) n s.position (rest s) ≡ Ok true → (parse : Parse) (rules : EncodingRules) {kind : ErrorKind} → unless_failed (parse rules) s ≡ Err kind → unless_failed (parse_optional_field bits n parse rules) s ≡ Err kind
 found_fault bits n s ready m parse rules {kind} e =
     let there : parse rules s.position (rest s) ≡ Err kind = rw ready at e in
@@ -69,7 +69,7 @@ found_faultless bits n s ready m parse rules ok =
     let there : IsOk (parse rules s.position (rest s)) = rw ready at ok in
     rw (ready, found_field bits n s.position parse rules (rest s) m) there
 
--- the number of an encoding that octets begin with, and that is matched
+-- the number of an encoding at the front of octets, if it matches
 pub number_matched : (bits n m p : ℕ) (constructed : Bool) (octets inner : List ℕ) (taken : ℕ) → m < 2 ^ 32 → take taken octets ≡ tlv (class_tag bits constructed m) inner → match_tag (class_of_bits bits) n p octets ≡ Ok true → m ≡ n
 number_matched bits n m p constructed octets inner taken small e found =
     let t = class_tag bits constructed m in
@@ -90,7 +90,7 @@ number_matched bits n m p constructed octets inner taken small e found =
         eqb-true (number_of t) n (and_parts (class_index (class_of t) == class_index (class_of_bits bits)) (number_of t == n) h).1
 
 module _ {T : Type 0} (F : form.Ghosts T) (bits n m p : ℕ) (mode : TagMode) (v : T) (own : Tag) (contents : List ℕ) (rules : EncodingRules) (octets : List ℕ) (taken : ℕ) (found : match_tag (class_of_bits bits) n p octets ≡ Ok true) (a : AcceptsExplicit F.accepts bits m mode v rules (take taken octets)) where
-  -- the value that was decoded has the number that was looked for
+  -- the decoded value has the number that was looked for
   pub explicit_number : m ≡ n
   explicit_number = number_matched bits n m p true octets a.inner taken a.numbered a.octets_are found
 

@@ -1,4 +1,4 @@
--- Decoding implicit tagging: its faults, and its value.
+-- Decoding implicit tagging: its errors, and its value.
 use Rattle.std.proofs.Common.{◌≡◌, ℕ, ◌+◌, List, length, take, Bool, true, false, Result, Ok, Err, refl, sym, ap, ◌∙◌, subst, inl, inr}
 use Rattle.std.specs.Prelude.{IsOk}
 use Rattle.der_tlv.specs.declared.error.ErrorKind.{ErrorKind}
@@ -18,7 +18,7 @@ use Rattle.der_elem.proofs.AtContents.{AtHeader, AtContents, parse_after_as, par
 use Rattle.der_wrap.specs.ClassTags.{class_tag}
 use Rattle.der_wrap.specs.TaggedValues.{form_allowed, in_implicit, implicit_with_header, parse_implicit, AcceptsImplicit}
 
--- the header's fault is that of the whole encoding
+-- an error of the header is the error of the whole encoding
 pub header_fault_implicit : {old new : ReaderState} {kind : ErrorKind} → HeadFault read_header old new kind → (t : Tag) (own : Bool) (parse : ContentsParse) (rules : EncodingRules) → unless_failed (parse_implicit t own parse rules) old ≡ Err kind
 unfolding parse_implicit
 header_fault_implicit {old} {new} {kind} fault t own parse rules = at old.failed refl
@@ -38,12 +38,12 @@ module _ {header : Header} {old mid : ReaderState} (at : AtHeader header old mid
   pub form_fault_implicit : (kind : ErrorKind) → ((parsed : Result (ℕ × List ℕ) ErrorKind) → in_implicit rules own header.tag parsed ≡ Err kind) → unless_failed (parse_implicit t own parse rules) old ≡ Err kind
   form_fault_implicit kind refused = rw at.head.ready (parse_is ∙ refused _)
 
-  -- a form that is taken
+  -- a form that is accepted
   module _ (allowed : form_allowed rules (is_constructed header.tag) own ≡ true) where
     behind : parse_implicit t own parse rules old.position (rest old) ≡ parse_after_as t parse rules old header
     behind = parse_is ∙ rw allowed refl
 
-    -- contents octets longer than what is left
+    -- contents octets longer than the octets left
     pub too_long_implicit : {new : ReaderState} {kind : ErrorKind} → OctetsRefused mid new header.length kind → unless_failed (parse_implicit t own parse rules) old ≡ Err kind
     too_long_implicit refused = rw at.head.ready (behind ∙ parse_too_long_as at refused t parse rules)
 
@@ -52,7 +52,7 @@ module _ {T : Type 0} (F : ContentsFormat T) {header : Header} {old mid shown : 
   parse_inner =
       behind c.at t own F.parse old.rules allowed ∙ parse_shown_as c t F.parse old.rules ∙ ap (λ rules. tagged_contents t (length (octets_of header) + header.length) (F.parse rules shown.position (rest shown))) (sym (shown_rules c))
 
-  -- contents octets without a fault are those of an encoding without one
+  -- contents octets without an error are those of an encoding without one
   faultless : IsOk (unless_failed (F.parse shown.rules) shown) → IsOk (unless_failed (parse_implicit t own F.parse old.rules) old)
   faultless ok =
       let there : IsOk (F.parse shown.rules shown.position (rest shown)) = rw (shown_ready c) at ok in
@@ -62,7 +62,7 @@ module _ {T : Type 0} (F : ContentsFormat T) {header : Header} {old mid shown : 
       still (Ok contents) h = h
       still (Err k) h = absurd (cc)
 
-  -- the fault of the contents octets
+  -- an error of the contents octets
   pub contents_fault_implicit : {kind : ErrorKind} → ValueNotDecoded F shown kind → Faults F.TAKES_MEMORY F.FAULTS_FIRST (unless_failed (parse_implicit t own F.parse old.rules) old) kind
   contents_fault_implicit {kind} told =
       elim told.reason [

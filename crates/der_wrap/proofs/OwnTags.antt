@@ -1,4 +1,4 @@
--- The class, the number and the form of a tagged value's tag.
+-- The class, the number and the form of the tag of a tagged value.
 use Rattle.std.proofs.Common.{◌≡◌, ℕ, true}
 use Rattle.der_tlv.specs.declared.tag.Tag.{Tag}
 use Rattle.der_tlv.specs.declared.tag.mode.TagMode.{TagMode}

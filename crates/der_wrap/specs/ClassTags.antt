@@ -7,7 +7,7 @@ use Rattle.der_tlv.specs.declared.tag.Tag.TheVariants.{Application, ContextSpeci
 use Rattle.der_tlv.specs.TagParts.{class_of}
 use Rattle.der_tlv.specs.Identifier.{class_index}
 
--- the class of bits 8 and 7: 1 is application, 2 context-specific, 3 private (no type has another)
+-- the class of bits 8 and 7: 1 is application, 2 context-specific, 3 private (no type has any other)
 abbrev pub class_of_bits : ℕ → Class
 class_of_bits bits = if bits == 1 then classes.Application else (if bits == 2 then classes.ContextSpecific else classes.Private)
 

@@ -1,4 +1,4 @@
--- Tagged values of one form are equal exactly where their encodings are, and copies are encoded alike, if that holds of the values in them.
+-- Tagged values of one form are equal if and only if their encodings are, and copies have equal encodings, if this holds for the values in them.
 use Rattle.std.proofs.Common.{◌≡◌, ℕ, List, Bool, true, false, refl, sym, ap, ◌∙◌, IsTrue, ◌↔◌, ◌&&◌, ◌==◌, eq-eqb}
 use borrow.Author.Tests.{eqb-true}
 use Rattle.der_tlv.specs.declared.tag.Tag.{Tag}
@@ -40,7 +40,7 @@ copy_is_equal_tagged_value eq n m mode other v w e f h =
     all_true (n == m) (mode_eq mode other) (eq v w) (eq-eqb n m (sym e)) (ap (mode_eq mode) f ∙ mode_eq-same mode) h
 
 module _ {T : Type 0} (tag_of : T → Tag) (contents encoding : T → List ℕ) (encoding_is : (v : T) → encoding v ≡ tlv (tag_of v) (contents v)) where
-  -- where encodings are equal, so are the tags and the contents octets
+  -- if encodings are equal, so are the tags and the contents octets
   parts : (v w : T) → encoding v ≡ encoding w → (tag_of v ≡ tag_of w) × (contents v ≡ contents w)
   parts v w e = tlv-injective (tag_of v) (tag_of w) (contents v) (contents w) (sym (encoding_is v) ∙ e ∙ encoding_is w)
 
@@ -51,7 +51,7 @@ module _ {T : Type 0} (tag_of : T → Tag) (contents encoding : T → List ℕ) 
   abbrev encoded : ℕ → TagMode → ℕ → T → List ℕ
   encoded bits mode n v = tlv (tag_of_mode bits mode n (tag_of v)) (contents_of_mode mode (encoding v) (contents v))
 
-  -- values with equal encodings are encoded alike after equal tags
+  -- values with equal encodings have equal encodings after equal tags
   pub encoded_alike : (bits n m : ℕ) (mode : TagMode) (v w : T) → n ≡ m → encoding v ≡ encoding w → encoded bits mode n v ≡ encoded bits mode m w
   encoded_alike bits n m Explicit v w k e = ap (λ n. tlv (class_tag bits true n) (encoding v)) k ∙ ap (tlv (class_tag bits true m)) e
   encoded_alike bits n m Implicit v w k e =
@@ -84,12 +84,12 @@ module _ {T : Type 0} (tag_of : T → Tag) (contents encoding : T → List ℕ) 
     encoding_eq_tagged_value bits n m Explicit Implicit v w one = let k = one.same_mode in absurd (cc)
     encoding_eq_tagged_value bits n m Implicit Explicit v w one = let k = one.same_mode in absurd (cc)
 
-  -- a copy after the same tag is encoded as its source
+  -- a copy with the same tag has the encoding of its source
   pub copy_encoding_tagged_value : (bits n m : ℕ) (mode other : TagMode) (v w : T) → m ≡ n → other ≡ mode → encoding w ≡ encoding v → encoded bits other m w ≡ encoded bits mode n v
   copy_encoding_tagged_value bits n m mode other v w k e same =
       ap (λ mode. encoded bits mode m w) e ∙ encoded_alike bits m n mode w v k same
 
-  -- and is of the same forms
+  -- a copy with the same tag is comparable with the values that its source is comparable with
   pub copy_comparable_tagged_value : (comparable : T → T → Type 0) (mode other third : TagMode) (v w x : T) → other ≡ mode → encoding w ≡ encoding v → (comparable v x → comparable w x) → ComparableTagged comparable tag_of mode third v x → ComparableTagged comparable tag_of other third w x
   copy_comparable_tagged_value comparable mode other third v w x e same copy one =
       record {

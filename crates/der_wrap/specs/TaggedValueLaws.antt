@@ -52,7 +52,7 @@ module _ (constructed : Bool) (n : ℕ) where
   unfolding class_tag
   class_tag-constructed bits = constructed_of (bits == 1) (bits == 2)
 
-  -- its number
+  -- the number of a tag of a class
   pub class_tag-number : (bits : ℕ) → number_of (class_tag bits constructed n) ≡ n
   unfolding class_tag
   class_tag-number bits = number_of_choice (bits == 1) (bits == 2)
@@ -65,7 +65,7 @@ module _ (constructed : Bool) (n : ℕ) where
   class_of_choice false true = refl
   class_of_choice false false = refl
 
-  -- its class
+  -- the class of a tag of a class
   pub class_tag-class_of : (bits : ℕ) → class_of (class_tag bits constructed n) ≡ class_of_bits bits
   unfolding class_tag
   class_tag-class_of bits = class_of_choice (bits == 1) (bits == 2)
@@ -80,7 +80,7 @@ pub tag_of_mode-class : (bits : ℕ) (mode : TagMode) (n : ℕ) (inner : Tag) �
 tag_of_mode-class bits Explicit n inner = class_tag-class true n bits
 tag_of_mode-class bits Implicit n inner = class_tag-class (is_constructed inner) n bits
 
--- a tag of a class is told by its form and its number
+-- a tag of a class is determined by its form and its number
 pub class_tag-of : (bits : ℕ) (t : Tag) → in_class bits t ≡ true → t ≡ class_tag bits (is_constructed t) (number_of t)
 class_tag-of bits t h =
     let c = is_constructed t in
@@ -119,7 +119,7 @@ module _ {T : Type 0} (F : form.Ghosts T) where
     numbered_tag h = subst (λ m. m < 2 ^ 32) (sym (class_tag-number true n bits)) h
 
     module _ (mode : TagMode) (v : T) (own : Tag) (contents : List ℕ) where
-      -- what a value with explicit tagging is encoded as
+      -- the encoding of a value with explicit tagging
       explicit_encoding : mode ≡ Explicit → tlv (tag_of_mode bits mode n own) (contents_of_mode mode (F.encoding v) contents) ≡ tlv (class_tag bits true n) (F.encoding v)
       explicit_encoding e = rw e refl
 
@@ -159,7 +159,7 @@ module _ {T : Type 0} (F : form.Ghosts T) where
       readable_explicit rules b a =
           record { mode_is = a.mode_is; numbered = a.numbered; readable = F.only_readable rules v a.inner a.accepted }
 
-  -- the same laws of the contents octets alone
+  -- the laws of the contents octets alone
   module _ (mode : TagMode) (v : T) (contents : List ℕ) where
     explicit_contents : mode ≡ Explicit → contents_of_mode mode (F.encoding v) contents ≡ F.encoding v
     explicit_contents e = rw e refl
@@ -174,12 +174,12 @@ module _ {T : Type 0} (F : form.Ghosts T) where
     accepts_own_encoding rules r =
         (r.0, subst (F.accepts rules v) (sym (explicit_contents r.0)) (F.accepts_encoding rules v r.1))
 
-  -- two values with explicit tagging are comparable where the values in them are
+  -- two values with explicit tagging are comparable if the values in them are
   pub comparable_explicit_tagged : (tag_of : T → Tag) (mode other : TagMode) (v w : T) → mode ≡ Explicit → other ≡ Explicit → F.comparable v w → ComparableTagged F.comparable tag_of mode other v w
   comparable_explicit_tagged tag_of mode other v w e f one =
       record { same_mode = e ∙ sym f; comparable = one; same_tag = λ i. let k = sym e ∙ i in absurd (cc) }
 
--- the faults are of the octets, where those of the value are
+-- each error is an error in the octets, if this holds for the value
 all_of_octets : (p len : ℕ) (r : Result (ℕ × List ℕ) ErrorKind) → IsOfOctets r → IsOfOctets (all_of p len r)
 all_of_octets p len (Ok (n, encoding)) h = of_octets_either (n == len) (Ok encoding) (Err (TrailingData (p + n) (len - n))) tt refl
 all_of_octets p len (Err k) h = h

@@ -7,8 +7,8 @@ ghost use Rattle.der_wrap.specs.TaggedValues.{TagsExplicitly, TagsImplicitly};
 
 use der_tlv::{Class, EncodingRules, ErrorKind, Tag, TagNumber};
 
-/// The class of bits 8 and 7 of an identifier: 1 is application, 2 context-specific, and 3 private.
-/// No type has another number.
+/// Returns the class of bits 8 and 7 of an identifier: 1 is application, 2 context-specific, and
+/// 3 private. No type has any other number.
 pub fn class_of_bits(bits: u8) -> Class
     ensures { result ≡ class_of_bits bits }
 {
@@ -19,7 +19,7 @@ pub fn class_of_bits(bits: u8) -> Class
     }
 }
 
-/// The tag of the class with this form and number.
+/// Returns the tag of the class with this form and number.
 #[tactic(auto, unfolding(crate::specs::ClassTags::class_tag))]
 pub fn class_tag(bits: u8, constructed: bool, number: TagNumber) -> Tag
     ensures tag { result ≡ class_tag bits constructed number.0 }
@@ -41,14 +41,14 @@ pub fn class_tag(bits: u8, constructed: bool, number: TagNumber) -> Tag
     }
 }
 
-/// Whether a tag is of the class.
+/// Returns whether a tag is of the class.
 pub fn in_class(bits: u8, tag: Tag) -> bool
     ensures { result ≡ in_class bits tag }
 {
     tag.class() == class_of_bits(bits)
 }
 
-/// The number of a tag that stands for explicit tagging of the class.
+/// Returns the number of a tag of explicit tagging of the class.
 ///
 /// # Errors
 /// `ErrorKind::Noncanonical` (8) for a primitive tag; `ErrorKind::TagUnexpected` (4) with no
@@ -65,8 +65,8 @@ pub fn explicit_number(bits: u8, tag: Tag) -> Result<TagNumber, ErrorKind>
     Ok(tag.number())
 }
 
-/// Checks that a tag stands for implicit tagging of a type whose own encodings are constructed, or
-/// not.
+/// Checks that a tag has the form of implicit tagging of a type whose own encodings are
+/// constructed or not.
 ///
 /// # Errors
 /// `ErrorKind::Noncanonical` (8) for the other form, under DER.

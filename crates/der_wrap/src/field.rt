@@ -1,4 +1,4 @@
-//! Fields that may be absent, told by the class and the number of their tag.
+//! Fields that may be absent, found by the class and the number of their tag.
 
 ghost use Rattle.std.specs.Prelude.{◌≡◌, length};
 ghost use Rattle.der_wrap.specs.TaggedFields.{DecodesExplicit, DecodesImplicit, ReadsAny};
@@ -12,13 +12,13 @@ use der_tlv::{Error, Header, Reader, Source, Tag, TagMode, TagNumber};
 use std::alloc::Global;
 
 impl<T: Tagged, const CLASS: u8> TaggedValue<T, CLASS> {
-    /// Reads a field with explicit tagging and this number: `None`, with the reader
-    /// where it was, at the end or before a tag of another class or number.
+    /// Reads a field with explicit tagging and this number. At the end, or before a tag of
+    /// another class or number, returns `None`, and the reader is unchanged.
     ///
     /// # Errors
-    /// `ErrorKind::Failed` (17) on a failed reader; the faults of the next tag;
-    /// `ErrorKind::Noncanonical` (8) for a primitive tag; the value's faults;
-    /// `ErrorKind::TrailingData` (3) where octets are left over after the value.
+    /// `ErrorKind::Failed` (17) on a failed reader; the errors of the next tag;
+    /// `ErrorKind::Noncanonical` (8) for a primitive tag; the errors of the value;
+    /// `ErrorKind::TrailingData` (3) if octets are left over after the value.
     pub fn decode_explicit<'a, R: Source<'a>>(
         alloc: Global,
         reader: &mut R,
@@ -35,11 +35,11 @@ impl<T: Tagged, const CLASS: u8> TaggedValue<T, CLASS> {
         Ok(Some(TaggedValue::decode(alloc, reader)?))
     }
 
-    /// The value with explicit tagging that an encoding is.
+    /// Reads an encoding as a value with explicit tagging.
     ///
     /// # Errors
-    /// `ErrorKind::TagUnexpected` (4) with no expected tag unless the tag is constructed and of the
-    /// class; the refusals of `from_der` of the contents octets.
+    /// `ErrorKind::TagUnexpected` (4) with no expected tag unless the tag is constructed and of
+    /// the class; the errors of `from_der` of the contents octets.
     pub fn from_any<'a>(alloc: Global, any: AnyRef<'a>) -> Result<TaggedValue<T, CLASS>, Error>
     where
         T: FromDer<'a>,
@@ -59,13 +59,13 @@ impl<T: Tagged, const CLASS: u8> TaggedValue<T, CLASS> {
 }
 
 impl<T, const CLASS: u8> TaggedValue<T, CLASS> {
-    /// Reads a field with implicit tagging and this number: `None`, with the reader
-    /// where it was, at the end or before a tag of another class or number.
+    /// Reads a field with implicit tagging and this number. At the end, or before a tag of
+    /// another class or number, returns `None`, and the reader is unchanged.
     ///
     /// # Errors
-    /// `ErrorKind::Failed` (17) on a failed reader; the faults of the next tag; under DER
-    /// `ErrorKind::Noncanonical` (8) for a constructed tag where the type's own is primitive, and
-    /// for a primitive tag where it is constructed; the faults of the contents octets.
+    /// `ErrorKind::Failed` (17) on a failed reader; the errors of the next tag; under DER
+    /// `ErrorKind::Noncanonical` (8) for a constructed tag if the tag of the type is primitive,
+    /// and for a primitive tag if it is constructed; the errors of the contents octets.
     pub fn decode_implicit<'a, R: Source<'a>>(
         alloc: Global,
         reader: &mut R,

@@ -17,8 +17,8 @@ use der_elem::Tagged;
 use der_tlv::{Class, Tag};
 use std::cmp::Ordering;
 
-/// The order of two tagged values: that of their numbers, then explicit before implicit, then that
-/// of their values.
+/// Compares two tagged values: first their numbers, then explicit before implicit, then their
+/// values.
 pub fn number_then_mode_then_value<T: Ord, const CLASS: u8>(
     one: &TaggedValue<T, CLASS>,
     other: &TaggedValue<T, CLASS>,
@@ -30,7 +30,8 @@ pub fn number_then_mode_then_value<T: Ord, const CLASS: u8>(
     one.cmp(other)
 }
 
-/// The same of borrowed tagged values.
+/// Compares two borrowed tagged values: first their numbers, then explicit before implicit, then
+/// their values.
 pub fn borrowed_number_then_mode_then_value<'a, T: Ord, const CLASS: u8>(
     one: &TaggedValueRef<'a, T, CLASS>,
     other: &TaggedValueRef<'a, T, CLASS>,
@@ -42,8 +43,8 @@ pub fn borrowed_number_then_mode_then_value<'a, T: Ord, const CLASS: u8>(
     one.cmp(other)
 }
 
-/// The tag of a tagged value has its class and its number. It is constructed under explicit tagging,
-/// and under implicit tagging where the value's own tag is (X.690 8.14).
+/// Returns the tag of a tagged value, with its class and its number. It is constructed under
+/// explicit tagging, and under implicit tagging if the tag of the value is (X.690 8.14).
 #[tactic(auto, using(crate::proofs::OwnTags::class_of_mode, crate::proofs::OwnTags::number_of_mode, crate::proofs::OwnTags::constructed_explicit, crate::proofs::OwnTags::constructed_implicit))]
 pub fn class_number_and_form<T: Tagged, const CLASS: u8>(value: &TaggedValue<T, CLASS>) -> Tag
     ensures class { class_of result ≡ class_of_bits CLASS }
@@ -55,7 +56,8 @@ pub fn class_number_and_form<T: Tagged, const CLASS: u8>(value: &TaggedValue<T, 
     value.tag()
 }
 
-/// The same of borrowed tagged values.
+/// Returns the tag of a borrowed tagged value, with its class and its number. It is constructed
+/// under explicit tagging, and under implicit tagging if the tag of the value is (X.690 8.14).
 #[tactic(auto, using(crate::proofs::OwnTags::class_of_mode, crate::proofs::OwnTags::number_of_mode, crate::proofs::OwnTags::constructed_explicit, crate::proofs::OwnTags::constructed_implicit))]
 pub fn borrowed_class_number_and_form<'a, T: Tagged, const CLASS: u8>(
     value: &TaggedValueRef<'a, T, CLASS>,
@@ -69,7 +71,8 @@ pub fn borrowed_class_number_and_form<'a, T: Tagged, const CLASS: u8>(
     value.tag()
 }
 
-/// The classes of the tags of `Application`, `ContextSpecific` and `Private` (X.690 8.1.2.2).
+/// Returns the classes of the tags of `Application`, `ContextSpecific` and `Private` (X.690
+/// 8.1.2.2).
 pub fn classes_of_names(
     application: &Application<bool>,
     context_specific: &ContextSpecific<bool>,
@@ -84,7 +87,7 @@ pub fn classes_of_names(
     ]
 }
 
-/// The same of their borrowed forms.
+/// Returns the classes of the tags of `ApplicationRef`, `ContextSpecificRef` and `PrivateRef`.
 pub fn borrowed_classes_of_names<'a>(
     application: &ApplicationRef<'a, bool>,
     context_specific: &ContextSpecificRef<'a, bool>,

@@ -1,13 +1,13 @@
-//! Tagged values: a value after a tag of another class than its own (X.690 8.14).
+//! Tagged values: a value with a tag of another class than its own (X.690 8.14).
 //!
-//! Explicit tagging stands around the whole encoding, and is constructed: [1] of the INTEGER 5 is
-//! encoded as A1 03 02 01 05. Implicit tagging stands in place of the value's tag, and is constructed
-//! where that is: 81 01 05.
+//! Explicit tagging encloses the whole encoding, and is constructed: the INTEGER 5 with the tag
+//! [1] is encoded as A1 03 02 01 05. Implicit tagging replaces the tag of the value, and is
+//! constructed if that is: 81 01 05.
 //!
-//! Reading with explicit tagging refuses a primitive tag (8), then another class (4, none expected),
-//! contents longer than what is left (`ErrorKind::Incomplete`, 2), the value's faults, and octets
-//! left over after the value (`ErrorKind::TrailingData`, 3). Reading with implicit tagging needs
-//! the number, so it is a call of its own, `decode_implicit`.
+//! Reading with explicit tagging refuses a primitive tag (8), then another class (4, with no
+//! expected tag), contents longer than the octets left (`ErrorKind::Incomplete`, 2), the errors
+//! of the value, and octets left over after the value (`ErrorKind::TrailingData`, 3). Reading
+//! with implicit tagging needs the number, so it is a separate call, `decode_implicit`.
 
 ghost use Rattle.std.specs.Prelude.{◌≡◌, true, false, None, Some, refl};
 ghost use Rattle.der_tlv.specs.declared.tag.mode.TagMode.TheVariants.{Explicit};
@@ -26,16 +26,16 @@ use der_tlv::{BackWriter, Error, Header, Length, Reader, Source, Tag, TagMode, T
 use std::alloc::Global;
 use std::cmp::Ordering;
 
-/// A value with a tag of its own class and number. The class is bits 8 and 7 of the identifier. Only
-/// `Application` (1), `ContextSpecific` (2) and `Private` (3) name it outside this crate, so it is
-/// always one of these.
+/// A value with a tag of its own class and number. The class is bits 8 and 7 of the identifier.
+/// Outside this crate only `Application` (1), `ContextSpecific` (2) and `Private` (3) name it, so
+/// it is always one of these.
 ///
-/// The order is that of number, mode (explicit first) and value.
+/// Values are ordered by number, then mode (explicit first), then value.
 #[derive(Clone, Copy, Debug, PartialEq, Eq, PartialOrd, Ord)]
 pub struct TaggedValue<T, const CLASS: u8> {
     /// The number of the tag.
     pub tag_number: TagNumber,
-    /// Whether the tag stands around the value's encoding, or in place of its tag.
+    /// Whether the tag encloses the encoding of the value, or replaces its tag.
     pub tag_mode: TagMode,
     /// The value.
     pub value: T,
@@ -84,7 +84,7 @@ impl<T: Tagged, const CLASS: u8> Form for TaggedValue<T, CLASS> {
 
     ghost TAKES_MEMORY = { T.Form.TAKES_MEMORY };
 
-    // octets that are left over after the value are found after it is read
+    // octets left over after the value are found after it is read
     ghost FAULTS_FIRST = { false };
 
     ghost parse_of_accepted = { λ rules v. parse_of_explicit T.Form CLASS v.tag_number.0 v.tag_mode
@@ -145,7 +145,7 @@ impl<T: Tagged, const CLASS: u8> Tagged for TaggedValue<T, CLASS> {
 }
 
 impl<T: Tagged, const CLASS: u8> Choice for TaggedValue<T, CLASS> {
-    /// Every tag of the class is one of its encodings'.
+    /// Returns whether a tag is of the class: every such tag is that of some encoding.
     fn can_decode(tag: Tag) -> bool {
         in_class(CLASS, tag)
     }
@@ -194,7 +194,7 @@ impl<T: Tagged + EncodeValue + Encode, const CLASS: u8> EncodeValue for TaggedVa
 
 impl<T: Tagged + DerOrd + ValueOrd, const CLASS: u8> ValueOrd for TaggedValue<T, CLASS> {
     /// # Errors
-    /// (13) with the tag where the modes differ.
+    /// (13) with the tag if the modes differ.
     fn value_cmp(&self, other: &TaggedValue<T, CLASS>) -> Result<Ordering, Error> {
         match (self.tag_mode, other.tag_mode) {
             (TagMode::Explicit, TagMode::Explicit) => self.value.der_cmp(&other.value),

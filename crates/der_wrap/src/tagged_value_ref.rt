@@ -18,7 +18,7 @@ use der_tlv::{BackWriter, Error, Length, Tag, TagMode, TagNumber, Writer};
 pub struct TaggedValueRef<'a, T, const CLASS: u8> {
     /// The number of the tag.
     pub tag_number: TagNumber,
-    /// Whether the tag stands around the value's encoding, or in place of its tag.
+    /// Whether the tag encloses the encoding of the value, or replaces its tag.
     pub tag_mode: TagMode,
     /// The value.
     pub value: &'a T,
@@ -67,7 +67,7 @@ impl<'a, T: Tagged, const CLASS: u8> Form for TaggedValueRef<'a, T, CLASS> {
 
     ghost TAKES_MEMORY = { T.Form.TAKES_MEMORY };
 
-    // octets that are left over after the value are found after it is read
+    // octets left over after the value are found after it is read
     ghost FAULTS_FIRST = { false };
 
     ghost parse_of_accepted = { λ rules v. parse_of_explicit T.Form CLASS v.tag_number.0 v.tag_mode

@@ -1,17 +1,17 @@
-//! Strings compared as RFC 5280 section 7.1 says for ASCII.
+//! Strings of ASCII compared as RFC 5280 section 7.1 requires.
 
 ghost use Rattle.std.specs.Prelude.{◌≡◌};
 ghost use Rattle.std.specs.Cmp.Lexicographic.{pointwise};
 ghost use Rattle.der_verify.specs.Text.{drop_spaces, folded, prepared, same_character, settled, shows_front};
 
-/// Whether two strings of ASCII are the same but for case and spaces.
+/// Returns whether two strings of ASCII differ only in case and spaces.
 pub(crate) fn same_text(first: &[u8], second: &[u8]) -> bool
     ensures { result ≡ pointwise same_character (prepared first.now) (prepared second.now) }
 {
     same_settled(skip_spaces(first), skip_spaces(second))
 }
 
-/// Whether two strings are the same from here on.
+/// Returns whether two strings are the same from here on.
 fn same_settled(first: &[u8], second: &[u8]) -> bool
     ensures { result ≡ pointwise same_character (settled first.now) (settled second.now) }
 {
@@ -32,7 +32,7 @@ fn same_settled(first: &[u8], second: &[u8]) -> bool
     front(right).is_none()
 }
 
-/// The first character of a string as it is compared, and what follows.
+/// Returns the first character of a string as it is compared, and the octets after it.
 fn front(octets: &[u8]) -> Option<(u8, &[u8])>
     ensures { shows_front octets.now result }
 {
@@ -49,7 +49,7 @@ fn front(octets: &[u8]) -> Option<(u8, &[u8])>
     Some((0x20, others))
 }
 
-/// The string without the spaces before it.
+/// Returns the string without the spaces at its front.
 fn skip_spaces(octets: &[u8]) -> &[u8]
     ensures { result.now ≡ drop_spaces octets.now }
 {
@@ -63,7 +63,7 @@ fn skip_spaces(octets: &[u8]) -> &[u8]
     left
 }
 
-/// A letter in lower case.
+/// Returns a letter in lower case.
 fn lower(octet: u8) -> u8
     ensures { result ≡ folded octet }
 {

@@ -1,4 +1,5 @@
-//! What RFC 5280 asks of a list of revoked certificates beyond its grammar (sections 5.1 to 5.3).
+//! The rules of RFC 5280 for lists of revoked certificates beyond the grammar (sections 5.1 to
+//! 5.3).
 
 ghost use Rattle.std.specs.Prelude.{◌≡◌, ◌↔◌, List, Option, filter, IfOk, IsTrue};
 ghost use Rattle.der_lists.specs.ListRef as list_ref;
@@ -58,7 +59,7 @@ pub enum ListRule {
     CertificateIssuerIsCritical,
 }
 
-/// All rules, in the order in which `check_list` tells them.
+/// All rules, in the order in which `check_list` returns them.
 pub const LIST_RULES: [ListRule; 14] = [
     ListRule::AlgorithmsAgree,
     ListRule::ExtensionsInVersion2,
@@ -76,10 +77,10 @@ pub const LIST_RULES: [ListRule; 14] = [
     ListRule::CertificateIssuerIsCritical,
 ];
 
-/// The rules that a list breaks, in the order of `LIST_RULES`.
+/// Returns the rules that a list breaks, in the order of `LIST_RULES`.
 ///
 /// # Errors
-/// Where memory runs out.
+/// If memory runs out.
 pub fn check_list<'a>(
     alloc: Global,
     list: &CertificateList<'a>,
@@ -100,8 +101,8 @@ pub fn check_list<'a>(
     Ok(found)
 }
 
-/// Whether the algorithm within a list is the one outside (5.1.1.2, 5.1.2.2): the encodings are
-/// equal.
+/// Returns whether the signed algorithm of a list is the one outside (5.1.1.2, 5.1.2.2): the
+/// encodings are equal.
 pub fn list_algorithms_agree<'a>(list: &CertificateList<'a>) -> bool
     ensures equal { result ≡ list_same_algorithms list.now }
     ensures encodings { IsTrue result ↔ (⟦<AlgorithmIdentifier<'a> as Form>⟧.encoding (tbs_fields.signature (list_fields.tbs_cert_list list.now)) ≡ ⟦<AlgorithmIdentifier<'a> as Form>⟧.encoding (list_fields.signature_algorithm list.now)) }
@@ -110,7 +111,7 @@ pub fn list_algorithms_agree<'a>(list: &CertificateList<'a>) -> bool
 }
 
 impl ListRule {
-    /// The section of RFC 5280 that has the rule.
+    /// Returns the section of RFC 5280 with the rule.
     pub fn section(self) -> &'static str
         ensures { result.now ≡ list_section self }
     {
@@ -132,11 +133,11 @@ impl ListRule {
         }
     }
 
-    /// The same as `is_broken`, with memory, and sooner: that each extension stands once takes some
-    /// n log n comparisons of n extensions.
+    /// Returns the result of `is_broken`, but takes memory and is faster: with n extensions, the
+    /// rule that no extension is repeated takes about n log n comparisons.
     ///
     /// # Errors
-    /// Where memory runs out.
+    /// If memory runs out.
     pub fn is_broken_in<'a>(
         self,
         alloc: Global,
@@ -153,8 +154,8 @@ impl ListRule {
         }
     }
 
-    /// Whether a list breaks the rule. That each extension stands once is seen by comparing each of
-    /// them with all behind it. It takes no memory.
+    /// Returns whether a list breaks the rule, and takes no memory. The rule that no extension is
+    /// repeated compares each extension with all after it.
     pub fn is_broken<'a>(self, alloc: Global, list: &CertificateList<'a>) -> bool
         ensures { (listed : List Extension) (entries : List (Option (List Extension)))
             → AreListed ⟦<Extension<'a> as Form>⟧ (tbs_fields.crl_extensions (list_fields.tbs_cert_list list.now)) listed
@@ -167,7 +168,7 @@ impl ListRule {
         }
     }
 
-    /// Whether the part of a list that is signed breaks the rule.
+    /// Returns whether the signed part of a list breaks the rule.
     fn is_broken_within<'a>(self, alloc: Global, list: &TbsCertList<'a>) -> bool
         ensures { (listed : List Extension) (entries : List (Option (List Extension)))
             → AreListed ⟦<Extension<'a> as Form>⟧ (tbs_fields.crl_extensions list.now) listed
@@ -189,8 +190,8 @@ impl ListRule {
         }
     }
 
-    /// The identifier of the extension of a list that the rule is about, and the criticality that it
-    /// may not have.
+    /// Returns the identifier of the extension of a list that the rule is about, and the
+    /// criticality that it must not have.
     fn forbidden(self) -> Option<(&'static [u8], bool)>
         ensures { seen_forbidden result ≡ forbidden_of_list self }
     {
@@ -209,7 +210,7 @@ impl ListRule {
         }
     }
 
-    /// The same of an extension of an entry.
+    /// Returns the identifier and the forbidden criticality of an extension of an entry.
     fn forbidden_of_entry(self) -> Option<(&'static [u8], bool)>
         ensures { seen_forbidden result ≡ forbidden_of_entry self }
     {
@@ -221,7 +222,7 @@ impl ListRule {
         }
     }
 
-    /// Whether a list breaks a rule that is about more than criticality.
+    /// Returns whether a list breaks a rule that is about more than criticality.
     fn is_broken_otherwise<'a>(self, alloc: Global, list: &TbsCertList<'a>) -> bool
         ensures { (listed : List Extension) (entries : List (Option (List Extension)))
             → AreListed ⟦<Extension<'a> as Form>⟧ (tbs_fields.crl_extensions list.now) listed
@@ -248,7 +249,7 @@ impl ListRule {
     }
 }
 
-/// Whether the version is 2.
+/// Returns whether the version is 2.
 fn is_of_version_2(version: Option<u8>) -> bool
     ensures { result ≡ is_version_2 version }
 {
@@ -258,7 +259,7 @@ fn is_of_version_2(version: Option<u8>) -> bool
     }
 }
 
-/// Whether an entry of a list has extensions.
+/// Returns whether an entry of a list has extensions.
 fn has_entry_extensions<'a>(alloc: Global, list: &TbsCertList<'a>) -> bool
     ensures { (entries : List (Option (List Extension)))
         → AreEntries ⟦<RevokedCertificate<'a> as Form>⟧ ⟦<Extension<'a> as Form>⟧ (tbs_fields.revoked_certificates list.now) entries
@@ -270,7 +271,7 @@ fn has_entry_extensions<'a>(alloc: Global, list: &TbsCertList<'a>) -> bool
     }
 }
 
-/// Whether one of these entries has extensions.
+/// Returns whether one of these entries has extensions.
 fn one_has_extensions<'a>(alloc: Global, entries: &ListRef<'a, RevokedCertificate<'a>>) -> bool
     ensures { (shown : List (Option (List Extension)))
         → AreShown ⟦<RevokedCertificate<'a> as Form>⟧ (EntryShows ⟦<Extension<'a> as Form>⟧) (list_ref.octets_of entries.now) shown
@@ -279,7 +280,7 @@ fn one_has_extensions<'a>(alloc: Global, entries: &ListRef<'a, RevokedCertificat
     one_passes(entries.iter(alloc), &HasExtensions)
 }
 
-/// That an entry has extensions.
+/// The test that an entry has extensions.
 struct HasExtensions;
 
 impl<'a> ShownTest<RevokedCertificate<'a>> for HasExtensions {
@@ -301,7 +302,7 @@ impl<'a> ShownTest<RevokedCertificate<'a>> for HasExtensions {
     ghost respects = { λ p. same_extensions ⟦<Extension<'a> as Form>⟧ };
 }
 
-/// Whether an extension of an entry has this identifier and is critical, or is not.
+/// Returns whether an extension of an entry has this identifier and this criticality.
 fn entry_has_criticality_of<'a>(
     alloc: Global,
     entries: &ListRef<'a, RevokedCertificate<'a>>,
@@ -320,7 +321,7 @@ fn entry_has_criticality_of<'a>(
     one_passes(entries.iter(alloc), &test)
 }
 
-/// That an extension of an entry has this identifier and is critical, or is not.
+/// The test that an extension of an entry has this identifier and this criticality.
 #[derive(Drop)]
 struct HasCriticalityWithin<'b> {
     alloc: Global,

@@ -1,5 +1,5 @@
-//! Extensions that stand twice, by the order of their identifiers: of n extensions some n log n pairs
-//! are compared.
+//! Repeated extensions, found by the order of their identifiers: n extensions take about n log n
+//! comparisons.
 
 ghost use Rattle.std.specs.Prelude.{◌≡◌, List, IfOk};
 ghost use Rattle.der_lists.specs.Items.{AreItems};
@@ -16,7 +16,7 @@ use der_pkix::crl::TbsCertList;
 use std::alloc::{AllocError, Global};
 use std::collections::BTreeSet;
 
-/// Whether two extensions of a certificate have one identifier.
+/// Returns whether two extensions of a certificate have the same identifier.
 pub(crate) fn certificate_repeats<'a>(
     alloc: Global,
     certificate: &TbsCertificate<'a>,
@@ -30,7 +30,7 @@ pub(crate) fn certificate_repeats<'a>(
     }
 }
 
-/// Whether two extensions of a list have one identifier.
+/// Returns whether two extensions of a list have the same identifier.
 pub(crate) fn list_repeats<'a>(alloc: Global, list: &TbsCertList<'a>) -> Result<bool, AllocError>
     ensures { (listed : List Extension) → AreListed ⟦<Extension<'a> as Form>⟧ (list_fields.crl_extensions list.now) listed
         → IfOk result (λ repeats. repeats ≡ has_repeated listed) }
@@ -41,7 +41,7 @@ pub(crate) fn list_repeats<'a>(alloc: Global, list: &TbsCertList<'a>) -> Result<
     }
 }
 
-/// Whether two of these extensions have one identifier.
+/// Returns whether two of these extensions have the same identifier.
 fn one_repeats<'a>(
     alloc: Global,
     extensions: &ListRef<'a, Extension<'a>>,

@@ -1,4 +1,4 @@
--- A name of its attributes, one after another.
+-- A name is made of its attributes, one after another.
 use Rattle.std.proofs.Common.{List, ℕ, ◌≡◌, refl, subst}
 use Rattle.std.specs.Prelude.{IfOk}
 use Rattle.std.proofs.lemmas.Result.{IfErr-weaker}

@@ -2,7 +2,7 @@ use Rattle.std.proofs.Common.{◌≡◌, IfSome}
 use Rattle.der_lines.proofs.Cuts.{Answered}
 use Rattle.der_lines.proofs.answering.run.Given as goal
 
--- all that was read was answered, and nothing failed
+-- all lines that were read were answered, and nothing failed
 abbrev pub invariant-lines : goal.invariant-lines
 invariant-lines g l = record {
   answered : IfSome (g.R.Read.remaining l.fn.input.reader) (λ text.

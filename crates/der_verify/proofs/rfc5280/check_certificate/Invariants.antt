@@ -7,7 +7,7 @@ use Rattle.der_verify.specs.Rfc5280.{breaks, certificate_rules, AreListed}
 use Rattle.der_verify.specs.contracts.shown.MeaningsMeantExtension.TheImpl as extension
 use Rattle.der_verify.proofs.rfc5280.check_certificate.Given as goal
 
--- what is found, and what is left to be found
+-- the rules that were found, and those that are left to check
 abbrev pub invariant-each : goal.invariant-each
 invariant-each l = (listed : List Extension) → AreListed extension.ghosts.FORM (tbs.extensions (whole.tbs_certificate l.fn.certificate)) listed
     → l.found.items ++ filter (λ r. breaks r l.fn.certificate listed) l.left ≡ filter (λ r. breaks r l.fn.certificate listed) certificate_rules

@@ -1,4 +1,4 @@
--- Each extension beside all behind it.
+-- Each extension is compared with all after it.
 use Rattle.std.proofs.Common.{true, false, sym, ap, subst, ◌∙◌}
 use Rattle.std.specs.List.{list_any}
 use Rattle.der_lists.specs.Items.{AreToCome}

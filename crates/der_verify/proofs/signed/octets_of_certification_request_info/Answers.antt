@@ -1,4 +1,4 @@
--- What is signed of a request that was read.
+-- The signed octets of a request that was read.
 use Rattle.der_verify.proofs.FirstFields.{first_read}
 use Rattle.der_verify.proofs.signed.octets_of_certification_request_info.Goals as goal
 

@@ -1,4 +1,4 @@
--- What is signed of a list that was read.
+-- The signed octets of a list that was read.
 use Rattle.der_verify.proofs.FirstFields.{first_read}
 use Rattle.der_verify.proofs.signed.octets_of_tbs_cert_list.Goals as goal
 

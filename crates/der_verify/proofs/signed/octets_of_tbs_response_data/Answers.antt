@@ -1,4 +1,4 @@
--- What is signed of an answer that was read.
+-- The signed octets of an OCSP response that was read.
 use Rattle.der_verify.proofs.FirstFields.{first_read}
 use Rattle.der_verify.proofs.signed.octets_of_tbs_response_data.Goals as goal
 

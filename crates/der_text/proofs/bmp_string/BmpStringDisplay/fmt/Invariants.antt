@@ -3,7 +3,7 @@ use Rattle.std.specs.Fmt.{HasWritten, IsPlainFormatter}
 use Rattle.der_text.specs.BmpUnits.{units}
 use Rattle.der_text.proofs.bmp_string.BmpStringDisplay.fmt.Given as goal
 
--- what was written, and the characters that are left, are the text
+-- the octets that were written and the characters that are left are the text
 abbrev pub invariant-characters : goal.invariant-characters
 invariant-characters g l =
     IsPlainFormatter l.fn.f

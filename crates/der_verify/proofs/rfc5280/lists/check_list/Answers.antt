@@ -1,4 +1,4 @@
--- What is found so far, and what the rules that are left find.
+-- The rules that were found so far, and those that are found among the rules left.
 use Rattle.std.proofs.Common.{refl, sym, ap, ◌∙◌, ◌++◌}
 use Rattle.std.specs.Prelude.{filter}
 use Rattle.der_verify.specs.declared.rfc5280.lists.ListRule.{ListRule}

@@ -9,7 +9,7 @@ use Rattle.der_verify.specs.contracts.shown.MeaningsMeantRevokedCertificate.TheI
 use Rattle.der_verify.specs.contracts.shown.MeaningsMeantExtension.TheImpl as extension
 use Rattle.der_verify.proofs.rfc5280.lists.check_list.Given as goal
 
--- what is found, and what is left to be found
+-- the rules that were found, and those that are left to check
 abbrev pub invariant-each : goal.invariant-each
 invariant-each l = (listed : List Extension) (entries : List (Option (List Extension))) → AreListed extension.ghosts.FORM (tbs.crl_extensions (whole.tbs_cert_list l.fn.list)) listed → AreEntries entry.ghosts.FORM extension.ghosts.FORM (tbs.revoked_certificates (whole.tbs_cert_list l.fn.list)) entries
     → l.found.items ++ filter (λ r. list_breaks r l.fn.list listed entries) l.left ≡ filter (λ r. list_breaks r l.fn.list listed entries) list_rules

@@ -1,4 +1,4 @@
--- An identifier is seen once more, or is one of those that were seen.
+-- An identifier is added to those that were seen, or is one of them.
 use Rattle.std.proofs.Common.{ap, subst, sym, ◌∙◌}
 use Rattle.der_lists.specs.ListRef as list
 use Rattle.der_opaque.specs.ObjectIdentifierRef as identifier
