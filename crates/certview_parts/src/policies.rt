@@ -1,5 +1,5 @@
-//! The values of the extensions certificatePolicies and policyMappings as text (RFC 5280 sections 4.2.1.4
-//! and 4.2.1.5).
+//! The values of the extensions certificatePolicies and policyMappings as text (RFC 5280 sections
+//! 4.2.1.4 and 4.2.1.5).
 
 use crate::characters::Behind;
 use crate::identifiers::push_identifier;
