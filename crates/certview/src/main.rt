@@ -1,6 +1,7 @@
-//! Reads X.509 certificates, lists of revoked certificates, keys, requests, OCSP, CMS, time stamps, files of
-//! PKCS #12 and parameters, in DER or as PEM text, from files or from standard input, and prints their
-//! fields. With the argument `lines` it answers lines, each a message's name, a space and hex digits.
+//! Reads X.509 certificates, lists of revoked certificates, keys, requests, OCSP, CMS, time
+//! stamps, PKCS #12 files and parameters, in DER or as PEM text, from files or from standard
+//! input, and prints their fields. With the argument `lines` it reads lines, each a message's
+//! name, a space and hex digits, and writes a result for each.
 #![tactic(auto)]
 
 use certview_names::MessageNames;
@@ -37,17 +38,17 @@ fn answer_lines(rt: &HostRuntime) -> Result<(), Fault> {
     }
 }
 
-/// What comes after a file.
+/// What to do after a file.
 #[derive(Clone, Copy, Debug, PartialEq, Eq)]
 enum Next {
-    /// The next one, and this status of the one before.
+    /// Continue with the next file; the status of this one.
     Goes(u8),
-    /// None, and this status: no one reads what is written, or a write failed.
+    /// Stop, because no one reads the output or a write failed; the status.
     Ends(u8),
 }
 
-/// Shows each file, and answers the greatest status. Where no one reads on, or a write failed, the others
-/// are not shown.
+/// Shows each file and returns the greatest status. If no one reads on, or if a write failed, the
+/// remaining files are not shown.
 fn show_files(rt: &HostRuntime, request: &Request<'_>) -> u8 {
     let mut status = 0;
     for (number, file) in request.files.as_slice().iter().enumerate() {
@@ -62,7 +63,7 @@ fn show_files(rt: &HostRuntime, request: &Request<'_>) -> u8 {
     status
 }
 
-/// Ends the document of JSON, and answers the status.
+/// Ends the JSON document and returns the status.
 fn end_document(rt: &HostRuntime) -> u8 {
     match print!(rt; "\n]}}\n") {
         Ok(()) => 0,
@@ -85,7 +86,7 @@ fn show_one(rt: &HostRuntime, file: &File<'_>, view: &View<'_>) -> Next {
     }
 }
 
-/// Tells of a file that is refused, and shows what can be read of it.
+/// Reports a refused file, and shows its readable fields.
 fn refuse(rt: &HostRuntime, file: &str, view: &View<'_>, fault: Fault, octets: &[u8]) -> Next {
     let status = told(rt, file, fault);
     match show_refused(rt.alloc(), view, &fault, octets, &mut io::writer(rt)) {
@@ -95,7 +96,7 @@ fn refuse(rt: &HostRuntime, file: &str, view: &View<'_>, fault: Fault, octets: &
     }
 }
 
-/// The octets of a file, or of standard input.
+/// Reads the octets of a file, or of standard input.
 fn octets_of(rt: &HostRuntime, file: &str) -> Result<Vec<u8>, Fault> {
     if file != "-" {
         return octets_of_file(rt, file);
@@ -108,7 +109,8 @@ fn octets_of(rt: &HostRuntime, file: &str) -> Result<Vec<u8>, Fault> {
     read_input(rt.alloc(), &mut rt.reader())
 }
 
-/// The octets of the file that this word names, which std opens only by a name of text.
+/// Reads the octets of the file that this word names. The standard library opens a file only by a
+/// name that is text.
 fn octets_of_file(rt: &HostRuntime, word: &str) -> Result<Vec<u8>, Fault> {
     if !is_text(word) {
         return Err(Fault::Name);
@@ -119,7 +121,7 @@ fn octets_of_file(rt: &HostRuntime, word: &str) -> Result<Vec<u8>, Fault> {
     }
 }
 
-/// Tells on standard error of a file that is not shown, and answers the status.
+/// Reports on standard error a file that is not shown, and returns the status.
 fn told(rt: &HostRuntime, file: &str, fault: Fault) -> u8 {
     let _ = match plain(rt.alloc(), file) {
         Ok(name) if file != "-" => eprintln!(rt; "certview: {name}: {fault}"),
@@ -128,7 +130,7 @@ fn told(rt: &HostRuntime, file: &str, fault: Fault) -> u8 {
     fault.status()
 }
 
-/// Whether the one argument asks for lines.
+/// Returns whether the only argument asks for lines.
 fn wants_lines(words: &[String]) -> bool {
     match words {
         [_, word] => asks_for_lines(word.as_str()),
@@ -136,7 +138,7 @@ fn wants_lines(words: &[String]) -> bool {
     }
 }
 
-/// Does what the words ask for, and answers the status.
+/// Does what the words ask for and returns the status.
 fn answer(rt: &HostRuntime, words: &[String]) -> Result<u8, Fault> {
     if wants_lines(words) {
         answer_lines(rt)?;

@@ -1,4 +1,4 @@
-//! What the words of the command line ask for.
+//! The requests on the command line.
 
 use crate::words::name_of_word;
 use certview_text::{Asked, FieldName, Form, View};
@@ -7,7 +7,7 @@ use clap::{Arg, ArgAction, Command, Error};
 use der_asn1_types::DateTime;
 use std::alloc::{AllocError, Global};
 
-/// What stands behind the options in the help.
+/// The text after the options in the help.
 const AFTER: &str = "\
 A FILE that is '-', or none, is standard input. It has messages in DER or as PEM text:
 certificates, lists of revoked certificates, keys, requests, encrypted keys, OCSP, CMS
@@ -20,30 +20,30 @@ a space and hex digits.
 The status is 0, 1 for what is refused, could be read in part, breaks a rule or is not
 valid, and 2 where a file, the machine or the command line failed.";
 
-/// A file that is asked for.
+/// A file to read.
 #[derive(Drop)]
 pub struct File<'a> {
     /// The word that names it; `-` for standard input.
     pub word: &'a str,
-    /// What it is called where it is told of.
+    /// The name that the output shows.
     pub name: String,
 }
 
-/// What is asked for.
+/// The request on the command line.
 #[derive(Drop)]
 pub struct Request<'a> {
-    /// The files, in their order; standard input alone where none is named.
+    /// The files in their order, or only standard input if none is named.
     pub files: Vec<File<'a>>,
-    /// The fields that are shown; all, where none are named.
+    /// The fields that are shown; all if there is no list.
     pub fields: Option<Vec<FieldName>>,
     /// Whether the document is JSON.
     pub is_json: bool,
-    /// What is asked of each message besides its fields.
+    /// The requests about each message besides its fields.
     pub asked: Asked,
 }
 
 impl<'a> Request<'a> {
-    /// How the input of this number, from 0 on, is shown.
+    /// Returns how the input with this number, from 0 on, is shown.
     pub fn view_of<'b>(&'b self, number: usize) -> View<'b> {
         let has_name = self.is_json || self.files.len() > 1;
         let name = match self.files.get(number) {
@@ -71,10 +71,12 @@ impl<'a> Request<'a> {
     }
 }
 
-/// What the words ask for. The first word is what the program was called by; `names` are those of all fields.
+/// Returns what the words ask for. The first word is the name by which the program was called;
+/// `names` are the names of all fields.
 ///
 /// # Errors
-/// For words that are no options, and where help or the version is asked for: the text of these.
+/// If the words are no valid options, or if they ask for the help or the version: the text to
+/// print.
 pub fn request_of<'a>(
     alloc: Global,
     words: &'a [String],
@@ -105,7 +107,7 @@ pub fn request_of<'a>(
     })
 }
 
-/// The files that these words name.
+/// Returns the files that these words name.
 fn files_of<'a>(alloc: Global, words: &[&'a str]) -> Result<Vec<File<'a>>, AllocError> {
     let mut files = Vec::new(alloc);
     for word in words {
@@ -115,7 +117,7 @@ fn files_of<'a>(alloc: Global, words: &[&'a str]) -> Result<Vec<File<'a>>, Alloc
     Ok(files)
 }
 
-/// Standard input alone.
+/// Returns standard input as the only file.
 fn standard_input<'a>(alloc: Global) -> Result<Vec<File<'a>>, AllocError> {
     let mut files = Vec::new(alloc);
     let name = String::from_str(alloc, "-")?;
@@ -123,7 +125,7 @@ fn standard_input<'a>(alloc: Global) -> Result<Vec<File<'a>>, AllocError> {
     Ok(files)
 }
 
-/// The fields with these names. A name of no field is no option, and is refused before.
+/// Returns the fields with these names. A name of no field has already been refused as an option.
 fn fields_of(alloc: Global, names: &[&str]) -> Result<Vec<FieldName>, AllocError> {
     let mut fields = Vec::new(alloc);
     for name in names {
@@ -134,7 +136,8 @@ fn fields_of(alloc: Global, names: &[&str]) -> Result<Vec<FieldName>, AllocError
     Ok(fields)
 }
 
-/// The moment that a word says: a day, which is its first second, or a time of RFC 3339 with the letter Z.
+/// Parses a moment: a day, which stands for its first second, or a time of RFC 3339 with the
+/// letter Z.
 fn moment_of(alloc: Global, word: &str, names: &[&str]) -> Result<DateTime, Error> {
     let mut text = String::from_str(alloc, word)?;
     if word.len() == DAY.len() {
@@ -151,7 +154,7 @@ fn moment_of(alloc: Global, word: &str, names: &[&str]) -> Result<DateTime, Erro
     }
 }
 
-/// A day as it is written.
+/// The form of a day.
 const DAY: &str = "YYYY-MM-DD";
 
 fn flag<'a>(alloc: Global, name: &'a str, help: &'a str) -> Arg<'a> {
@@ -161,7 +164,7 @@ fn flag<'a>(alloc: Global, name: &'a str, help: &'a str) -> Arg<'a> {
         .action(ArgAction::SetTrue)
 }
 
-/// The options; `--fields` takes these names.
+/// Returns the description of the options; `--fields` takes these names.
 fn command<'a>(alloc: Global, names: &'a [&'a str]) -> Result<Command<'a>, Error> {
     let files = Arg::new(alloc, "FILE")
         .help("What to read")

@@ -1,19 +1,20 @@
-//! The words of the command line. They are octets, of which the name of a file may be any, and the library
-//! that reads them takes text: so an octet that is no part of text in UTF-8 stands in a word as a mark and
-//! its two digits.
+//! The words of the command line. They are octets, and the name of a file may consist of any
+//! octets, but the library that parses them takes text. A word therefore represents each octet
+//! that is no part of UTF-8 text as a mark and two digits.
 
 use std::alloc::{AllocError, Global};
 use std::env::FillError;
 use std::fmt::Write;
 use std::rt::Env;
 
-/// What stands before the two digits of an octet. No word has it that a program is called with: it ends one.
+/// The character before the two digits of an octet. No argument contains it, because it ends one.
 const MARK: char = '\0';
 
-/// The words that the program is called with, of which the first is what it is called.
+/// Returns the words of the command line. The first one is the name by which the program was
+/// called.
 ///
 /// # Errors
-/// Where memory is refused.
+/// `AllocError` if memory runs out.
 pub fn words_of(rt: &HostRuntime) -> Result<Vec<String>, AllocError> {
     let mut words = Vec::new(rt.alloc());
     for number in 0..usize::MAX {
@@ -25,7 +26,8 @@ pub fn words_of(rt: &HostRuntime) -> Result<Vec<String>, AllocError> {
     Ok(words)
 }
 
-/// The octets of the argument of this number, if there is one. The room for it is doubled until it fits.
+/// Returns the octets of the argument with this number, if there is one. It doubles the buffer
+/// until the argument fits.
 fn argument(rt: &HostRuntime, number: usize) -> Result<Option<Vec<u8>>, AllocError> {
     let mut count: usize = 256;
     for _ in 0..usize::BITS {
@@ -38,7 +40,7 @@ fn argument(rt: &HostRuntime, number: usize) -> Result<Option<Vec<u8>>, AllocErr
     Err(AllocError)
 }
 
-/// The octets of the argument of this number, if they are no more than so many.
+/// Returns the octets of the argument with this number, if there are at most `count`.
 fn argument_within(
     rt: &HostRuntime,
     number: usize,
@@ -55,7 +57,7 @@ fn argument_within(
     }
 }
 
-/// A word of these octets.
+/// Returns the word for these octets.
 fn word_of(alloc: Global, octets: &[u8]) -> Result<String, AllocError> {
     let mut word = String::new(alloc);
     for chunk in octets.utf8_chunks() {
@@ -73,15 +75,15 @@ fn push_marked(word: &mut String, octets: &[u8]) -> Result<(), AllocError> {
     Ok(())
 }
 
-/// Whether a word is as the program was called with it.
+/// Returns whether a word is the unchanged argument.
 pub fn is_text(word: &str) -> bool {
     !word.contains(MARK)
 }
 
-/// A word as it is shown: a `\` in the place of each mark.
+/// Returns a word in the form that is shown: with a `\` in place of each mark.
 ///
 /// # Errors
-/// Where memory is refused.
+/// `AllocError` if memory runs out.
 pub fn name_of_word(alloc: Global, word: &str) -> Result<String, AllocError> {
     let mut name = String::new(alloc);
     for character in word.chars() {

@@ -1,4 +1,4 @@
--- The messages that lines name: the grammars of their modules, and when reading takes memory.
+-- The messages that lines name: the grammars of their modules, and when decoding takes memory.
 use Rattle.std.specs.Prelude.{None, Some, if◌then◌else◌, codes}
 use Rattle.std.specs.Str.{bytes_eq}
 use Rattle.der_lines.specs.Rows.{Row, Taking, never, parsed}
@@ -19,11 +19,11 @@ use Rattle.der_enveloped.specs.Enveloped.Grammar as enveloped
 use Rattle.der_enveloped.specs.Authenticated.Grammar as authenticated
 use Rattle.der_time_stamp.specs.TimeStamp.Grammar as stamps
 
--- the row of a message: its grammar, and when reading it takes memory
+-- the row of a message: its grammar, and when decoding it takes memory
 abbrev pub message : Taking → Grammar → Row
 message memory g = parsed memory (parse_of g)
 
--- certificates and what they hold
+-- certificates and their parts
 unfoldable pub certificate_messages : Table
 certificate_messages name =
     if bytes_eq name (codes "cert") then Some (message never certificates.certificate)
@@ -51,7 +51,7 @@ key_messages name =
     else if bytes_eq name (codes "ecparams") then Some (message never keys.ec_parameters)
     else None
 
--- names, and algorithms
+-- names and algorithms
 unfoldable pub name_messages : Table
 name_messages name =
     if bytes_eq name (codes "name") then Some (message never names.name)
@@ -60,7 +60,7 @@ name_messages name =
     else if bytes_eq name (codes "generalname") then Some (message never values.general_name)
     else None
 
--- requests, and what a password keeps
+-- requests, and messages protected by a password
 unfoldable pub request_messages : Table
 request_messages name =
     if bytes_eq name (codes "request") then Some (message never requests.certification_request)
@@ -79,7 +79,7 @@ parameter_messages name =
     else if bytes_eq name (codes "x942params") then Some (message never algorithms.domain_parameters)
     else None
 
--- the status of certificates, asked and answered
+-- requests for the status of certificates, and responses
 unfoldable pub status_messages : Table
 status_messages name =
     if bytes_eq name (codes "ocsprequest") then Some (message never status.ocsp_request)
@@ -89,7 +89,7 @@ status_messages name =
     else if bytes_eq name (codes "certid") then Some (message never status.cert_id)
     else None
 
--- signed and digested messages, and what they hold
+-- signed and digested messages, and their parts
 unfoldable pub signed_messages : Table
 signed_messages name =
     if bytes_eq name (codes "contentinfo") then Some (message never signed.content_info)
@@ -99,7 +99,7 @@ signed_messages name =
     else if bytes_eq name (codes "attribute") then Some (message never names.attribute)
     else None
 
--- messages for recipients, encrypted and authenticated ones
+-- messages for recipients: enveloped, encrypted and authenticated ones
 unfoldable pub recipient_messages : Table
 recipient_messages name =
     if bytes_eq name (codes "envelopeddata") then Some (message never enveloped.enveloped_data)
@@ -107,7 +107,7 @@ recipient_messages name =
     else if bytes_eq name (codes "authenticateddata") then Some (message never authenticated.authenticated_data)
     else None
 
--- time stamps, asked and answered
+-- requests for time stamps, and responses
 unfoldable pub stamp_messages : Table
 stamp_messages name =
     if bytes_eq name (codes "timestampreq") then Some (message never stamps.time_stamp_req)
@@ -115,7 +115,7 @@ stamp_messages name =
     else if bytes_eq name (codes "tstinfo") then Some (message never stamps.tst_info)
     else None
 
--- values of extensions that are about a key
+-- values of extensions about a key
 unfoldable pub key_values : Table
 key_values name =
     if bytes_eq name (codes "keyusage") then Some (message never values.key_usage)
@@ -125,7 +125,7 @@ key_values name =
     else if bytes_eq name (codes "privatekeyusageperiod") then Some (message never values.private_key_usage_period)
     else None
 
--- those about a subject or an issuer
+-- values of extensions about a subject or an issuer
 unfoldable pub subject_values : Table
 subject_values name =
     if bytes_eq name (codes "basicconstraints") then Some (message never values.basic_constraints)
@@ -135,7 +135,7 @@ subject_values name =
     else if bytes_eq name (codes "nameconstraints") then Some (message never values.name_constraints)
     else None
 
--- those about policies
+-- values of extensions about policies
 unfoldable pub policy_values : Table
 policy_values name =
     if bytes_eq name (codes "certificatepolicies") then Some (message never values.certificate_policies)
@@ -144,7 +144,7 @@ policy_values name =
     else if bytes_eq name (codes "inhibitanypolicy") then Some (message never values.inhibit_any_policy)
     else None
 
--- those about places
+-- values of extensions about locations
 unfoldable pub access_values : Table
 access_values name =
     if bytes_eq name (codes "crldistributionpoints") then Some (message never values.crl_distribution_points)
@@ -161,7 +161,7 @@ list_values name =
     else if bytes_eq name (codes "issuingdistributionpoint") then Some (message never values.issuing_distribution_point)
     else None
 
--- and of entries of lists
+-- values of extensions of entries in lists
 unfoldable pub entry_values : Table
 entry_values name =
     if bytes_eq name (codes "crlreason") then Some (message never values.crl_reason)
@@ -170,7 +170,7 @@ entry_values name =
     else if bytes_eq name (codes "holdinstructioncode") then Some (message never values.hold_instruction_code)
     else None
 
--- messages, and what they hold
+-- messages and their parts
 unfoldable pub all_messages : Table
 all_messages name =
     or_else (certificate_messages name)

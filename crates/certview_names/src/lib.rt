@@ -1,4 +1,4 @@
-//! The names by which lines name messages, and the values of extensions.
+//! The names of messages, and of the values of extensions, in lines.
 //!
 //! ```rust
 //! let mut written = Vec::new(rt.alloc());

@@ -32,7 +32,7 @@ use der_pkix::name::{Attribute, Name, RelativeDistinguishedName};
 use der_time_stamp::time_stamp::{TimeStampReq, TimeStampResp, TstInfo};
 use std::alloc::Global;
 
-/// The names of messages, and of the values of extensions.
+/// The names of messages and of the values of extensions.
 pub struct MessageNames;
 
 impl Names for MessageNames {

@@ -5,7 +5,7 @@ use Rattle.ucd_category.specs.GeneralCategory.{general_category}
 use Rattle.ucd_category.specs.declared.GeneralCategory.{GeneralCategory}
 use Rattle.ucd_category.specs.declared.GeneralCategory.TheVariants.{Control, Format, Surrogate, PrivateUse, Unassigned, LineSeparator, ParagraphSeparator}
 
--- the categories of what a terminal does not show, or obeys: Cc, Cf, Cs, Co, Cn, Zl and Zp
+-- the categories of characters that a terminal does not show, or that act on it: Cc, Cf, Cs, Co, Cn, Zl and Zp
 abbrev pub is_hidden : GeneralCategory → Bool
 is_hidden Control = true
 is_hidden Format = true
@@ -16,6 +16,6 @@ is_hidden LineSeparator = true
 is_hidden ParagraphSeparator = true
 is_hidden category = false
 
--- whether a character is shown as it is
+-- whether a character is shown unchanged
 abbrev pub is_plain : ℕ → Bool
 is_plain c = not (is_hidden (general_category c)) && not (is_default_ignorable_code_point c)

@@ -1,20 +1,20 @@
--- Values that stand one after another in octets, by their headers.
+-- Successive values in octets, by their headers.
 use Rattle.std.specs.Prelude.{ℕ, ◌+◌, ◌^◌, List, length, take, drop, nat_lt, if◌then◌else◌, Result, Ok, Err}
 use Rattle.der_asn1_types.specs.ErrorKind.{ErrorKind}
 use Rattle.der_asn1_types.specs.Header.{Header}
 use Rattle.der_asn1_types.specs.HeaderReading.{read_header}
 
--- a number of octets, as far as there are so many
+-- the second number, but at most the first
 abbrev pub at_most : ℕ → ℕ → ℕ
 at_most most count = if nat_lt most count then most else count
 
--- the octets of a header and of the whole value, where so many are left
+-- the octets of a header and of the whole value, where this many octets are left
 abbrev pub sizes_by : ℕ → Result (ℕ × Header) ErrorKind → ℕ × ℕ
 sizes_by most (Ok (count, header)) = (at_most most count, at_most most (count + header.length))
 sizes_by most (Err kind) = (0, 0)
 
--- How many octets the header of the first value has and how many the whole value, as far as they are there: none where no header
--- can be read, or where no length can say how many octets there are.
+-- The number of octets of the first value's header and of the whole value, as far as they are present: zeros if no header can be read,
+-- or if no length can express the number of octets.
 abbrev pub sizes : List ℕ → ℕ × ℕ
 sizes octets = if nat_lt (length octets) (2 ^ 32) then sizes_by (length octets) (read_header 0 octets) else (0, 0)
 

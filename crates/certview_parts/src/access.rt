@@ -1,5 +1,5 @@
-//! The values of the extensions authorityInfoAccess and subjectInfoAccess as text (RFC 5280 sections
-//! 4.2.2.1 and 4.2.2.2), which have one form.
+//! The values of the extensions authorityInfoAccess and subjectInfoAccess as text (RFC 5280
+//! sections 4.2.2.1 and 4.2.2.2). Both have one form.
 
 use crate::identifiers::push_identifier;
 use crate::other_names::push_other_name;
@@ -9,7 +9,7 @@ use der_asn1_types::FromDer;
 use der_extensions::extension::{AccessDescription, AuthorityInfoAccessSyntax};
 use std::alloc::AllocError;
 
-/// Adds for each what is there to be had, and where.
+/// Adds each access method and its location.
 pub fn push_access(printer: &mut Printer<'_>, inner: Inner<'_>) -> Result<(), AllocError> {
     let ways = match AuthorityInfoAccessSyntax::from_der(printer.alloc, inner.octets) {
         Ok(ways) => ways,
@@ -17,7 +17,7 @@ pub fn push_access(printer: &mut Printer<'_>, inner: Inner<'_>) -> Result<(), Al
     };
     for item in ways.items().iter(printer.alloc) {
         let Ok(way) = item else {
-            // It was read before.
+            // The item was decoded before, so only memory can run out.
             return Err(AllocError);
         };
         push_way(printer, &way)?;

@@ -20,20 +20,21 @@ use der_pkix::key::RsaPublicKey;
 use std::alloc::{AllocError, Global};
 use std::fmt::Write;
 
-/// A key of RSA (RFC 3279 section 2.3.1).
+/// An RSA key (RFC 3279 section 2.3.1).
 const RSA_ENCRYPTION: &[u8] = &constants::RSA_ENCRYPTION;
 
-/// A key of RSA that signs by RSASSA-PSS alone (RFC 4055 section 1.2).
+/// An RSA key for RSASSA-PSS signatures only (RFC 4055 section 1.2).
 const ID_RSASSA_PSS: &[u8] = &constants::ID_RSASSA_PSS;
 
 /// A point of an elliptic curve (RFC 5480 section 2.1.1).
 const ID_EC_PUBLIC_KEY: &[u8] = &constants::ID_EC_PUBLIC_KEY;
 
-/// A key of DSA (RFC 3279 section 2.3.2).
+/// A DSA key (RFC 3279 section 2.3.2).
 const ID_DSA: &[u8] = &constants::ID_DSA;
 
-/// Adds a line with an algorithm's identifier, and with its parameters where these are an identifier,
-/// as of a curve (RFC 5480 section 2.1.1); of others their encoding.
+/// Adds a line with an algorithm's identifier and its parameters. Parameters that are an
+/// identifier, such as a curve's (RFC 5480 section 2.1.1), are shown as one; others are shown as
+/// they are encoded.
 pub fn push_algorithm(
     printer: &mut Printer<'_>,
     place: &Place,
@@ -48,7 +49,7 @@ pub fn push_algorithm(
     printer.push('\n')
 }
 
-/// Adds parameters, which stand at the end of a place.
+/// Adds the parameters at the end of a byte range.
 fn push_parameters(
     printer: &mut Printer<'_>,
     place: &Place,
@@ -76,8 +77,8 @@ fn push_parameters(
     }
 }
 
-/// Adds a line for the algorithm of a key, and one for the key itself: how many bits it has as people
-/// count them, and its octets.
+/// Adds a line for the algorithm of a key, and one for the key itself: its size in bits as people
+/// count it, and its octets.
 pub fn push_key(
     printer: &mut Printer<'_>,
     place: &Place,
@@ -105,8 +106,8 @@ pub fn push_key(
     printer.push('\n')
 }
 
-/// Adds how many bits a key of another algorithm has, and its octets; of the algorithms of RFC 8410 a
-/// key has so many octets as section 4 says.
+/// Adds the number of bits and the octets of a key of another algorithm. For an algorithm of RFC
+/// 8410 it checks the number of octets against section 4.
 fn push_other_key(
     page: &mut Page,
     end: usize,
@@ -121,13 +122,13 @@ fn push_other_key(
     }
 }
 
-/// Whether a BIT STRING is so many whole octets.
+/// Returns whether a BIT STRING is exactly `count` whole octets.
 fn has_octets(bits: &BitStringRef<'_>, count: usize) -> bool {
     bits.unused_bits() == 0 && bits.raw_bytes().len() == count
 }
 
-/// Adds that the octets of a BIT STRING, before whose end so many octets of the message stand, can be
-/// no key, and the octets.
+/// Adds that the octets of a BIT STRING, which ends at offset `end` of the message, are no key,
+/// and the octets.
 fn push_wrong_key(
     page: &mut Page,
     end: usize,
@@ -139,14 +140,14 @@ fn push_wrong_key(
     push_digits(page, key.raw_bytes())
 }
 
-/// Adds how many bits a key has, and the octets of its BIT STRING.
+/// Adds the number of bits of a key and the octets of its BIT STRING.
 fn push_bits_of(page: &mut Page, bits: usize, key: &BitStringRef<'_>) -> Result<(), AllocError> {
     write!(page.text, "{bits} bits, ")?;
     push_digits(page, key.raw_bytes())
 }
 
-/// Adds the bits of the modulus, the exponent and the modulus of a key of RSA (RFC 3279 section 2.3.1),
-/// before whose encoding so many octets of the message stand.
+/// Adds the bits of the modulus, the exponent and the modulus of an RSA key (RFC 3279 section
+/// 2.3.1), whose encoding is at offset `begin` of the message.
 fn push_rsa_key(printer: &mut Printer<'_>, begin: usize, octets: &[u8]) -> Result<(), AllocError> {
     match RsaPublicKey::from_der(printer.alloc, octets) {
         Ok(key) => {
@@ -160,9 +161,9 @@ fn push_rsa_key(printer: &mut Printer<'_>, begin: usize, octets: &[u8]) -> Resul
     }
 }
 
-/// Adds the bits of an element of the curve's field, if the curve has a name that is known, and the
-/// point (RFC 5480 section 2.2), before whose end so many octets of the message stand. Octets of
-/// another number than a point of the curve has are none.
+/// Adds the bits of an element of the curve's field, if the curve has a known name, and the point
+/// (RFC 5480 section 2.2), which ends at offset `end` of the message. Octets whose number does
+/// not fit the curve are no point.
 fn push_point(
     printer: &mut Printer<'_>,
     end: usize,
@@ -185,8 +186,8 @@ fn push_point(
     }
 }
 
-/// Adds the bits of the prime of a key of DSA, the first of its parameters (RFC 3279 section 2.3.2), and
-/// the key.
+/// Adds the bits of the prime of a DSA key, the first of its parameters (RFC 3279 section 2.3.2),
+/// and the key.
 fn push_dsa_key(
     printer: &mut Printer<'_>,
     algorithm: &AlgorithmIdentifier<'_>,
@@ -199,7 +200,7 @@ fn push_dsa_key(
     push_digits(printer.page, key.raw_bytes())
 }
 
-/// How many bits the first INTEGER has of parameters that are a SEQUENCE.
+/// Returns the number of bits of the first INTEGER in parameters that are a SEQUENCE.
 fn bits_of_prime(alloc: Global, algorithm: &AlgorithmIdentifier<'_>) -> Option<usize> {
     let Some(parameters) = &algorithm.parameters else {
         return None;
@@ -215,7 +216,7 @@ fn bits_of_prime(alloc: Global, algorithm: &AlgorithmIdentifier<'_>) -> Option<u
     }
 }
 
-/// How many bits a number has, of which these are the octets.
+/// Returns the number of bits of the number in these octets.
 pub fn bits_of(octets: &[u8]) -> usize {
     match octets {
         [first, rest @ ..] => {

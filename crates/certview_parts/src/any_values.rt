@@ -1,4 +1,4 @@
-//! Values whose type only their tag tells, as text.
+//! Values as text, when only their tag gives their type.
 
 use crate::characters::Behind;
 use crate::hexadecimal::{push_digits, push_number_of, push_serial};
@@ -12,8 +12,8 @@ use der_asn1_types::asn1::{AnyRef, GeneralizedTime, UtcTime};
 use der_asn1_types::{Encode, Error, FromDer, Length, Tag};
 use std::alloc::AllocError;
 
-/// Adds a value: an identifier, a number, octets, a time or text by its tag; of another type `#` and its
-/// encoding. So many octets of the message stand before its end, if that is known.
+/// Adds a value: an identifier, a number, octets, a time or text, by its tag; for another type
+/// `#` and its encoding. The value ends at offset `end` of the message, if that is known.
 pub fn push_any(
     printer: &mut Printer<'_>,
     end: Option<usize>,
@@ -34,8 +34,8 @@ pub fn push_any(
     }
 }
 
-/// Adds that a NULL has contents octets (X.690 8.8.2), before whose end so many octets of the message
-/// stand, if that is known.
+/// Adds that a NULL has contents octets (X.690 8.8.2). It ends at offset `end` of the message, if
+/// that is known.
 pub fn push_full_null(
     page: &mut Page,
     end: Option<usize>,
@@ -52,7 +52,7 @@ pub fn push_full_null(
     }
 }
 
-/// Adds a number in decimal; a negative one as a serial number is shown.
+/// Adds a number in decimal, or a negative number in the form of a serial number.
 fn push_integer(page: &mut Page, octets: &[u8]) -> Result<(), AllocError> {
     match octets {
         [first, ..] if *first >= 0x80 => push_serial(page, octets),
@@ -61,7 +61,7 @@ fn push_integer(page: &mut Page, octets: &[u8]) -> Result<(), AllocError> {
     }
 }
 
-/// Adds a time; what is none as it is encoded.
+/// Adds a time. If the octets are no time, adds them as they are encoded.
 fn push_any_time(printer: &mut Printer<'_>, value: &AnyRef<'_>) -> Result<(), AllocError> {
     let Ok(octets) = value.to_der(printer.alloc) else {
         return Err(AllocError);

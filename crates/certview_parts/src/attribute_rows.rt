@@ -1,4 +1,4 @@
-//! Attributes of requests, keys, signers and bags, a line each.
+//! Attributes of requests, keys, signers and bags, one line each.
 
 use crate::any_values::push_any;
 use crate::extension_rows::push_read_extensions;
@@ -13,7 +13,7 @@ use der_pkcs::request::constants::PKCS_9_AT_EXTENSION_REQUEST;
 use der_pkix::name::Attribute;
 use std::alloc::AllocError;
 
-/// Adds a line for each attribute of a set, in the order in which they stand: what it is, and its values.
+/// Adds a line for each attribute of a set, in the order of the octets: its type and its values.
 pub fn push_attribute_rows(
     printer: &mut Printer<'_>,
     set: &Place,
@@ -33,8 +33,8 @@ pub fn push_attribute_rows(
     Ok(())
 }
 
-/// Adds the line of an attribute. Where it asks for extensions (RFC 2985 section 5.4.2), the lines of these
-/// stand after it.
+/// Adds the line of an attribute. If it requests extensions (RFC 2985 section 5.4.2), their lines
+/// follow it.
 fn push_attribute(
     printer: &mut Printer<'_>,
     place: &Place,
@@ -52,8 +52,8 @@ fn push_attribute(
     push_values(printer, place, attribute)
 }
 
-/// Adds the values of an attribute, each after a comma, and ends the line. One that is alone ends where
-/// the attribute does; where each of several ends is not told.
+/// Adds the values of an attribute, each after a comma, and ends the line. A single value ends
+/// where the attribute does; the ends of several values are not known.
 fn push_values(
     printer: &mut Printer<'_>,
     place: &Place,
@@ -66,7 +66,7 @@ fn push_values(
     };
     for item in values.iter(printer.alloc) {
         let Ok(value) = item else {
-            // It was read before.
+            // The item was decoded before, so only memory can run out.
             return Err(AllocError);
         };
         push_value(printer, end, &value)?;
@@ -84,7 +84,7 @@ fn push_value(
     push_any(printer, end, value)
 }
 
-/// Adds the lines of the extensions that are asked for: of each value of the set.
+/// Adds the lines of the requested extensions, for each value of the set.
 fn push_requests(printer: &mut Printer<'_>, values: &Place) -> Result<(), AllocError> {
     let mut items = printer.items(values);
     for _ in 0..values.length {

@@ -11,7 +11,7 @@ use der_extensions::extension::SubjectDirectoryAttributes;
 use der_pkix::name::Attribute;
 use std::alloc::AllocError;
 
-/// Adds each attribute, with its values as those in names.
+/// Adds each attribute, with its values in the form that they have in names.
 pub fn push_directory_attributes(
     printer: &mut Printer<'_>,
     inner: Inner<'_>,
@@ -22,7 +22,7 @@ pub fn push_directory_attributes(
     };
     for item in attributes.items().iter(printer.alloc) {
         let Ok(attribute) = item else {
-            // It was read before.
+            // The item was decoded before, so only memory can run out.
             return Err(AllocError);
         };
         push_attribute(printer, &attribute)?;
@@ -30,7 +30,8 @@ pub fn push_directory_attributes(
     Ok(())
 }
 
-/// Adds an attribute: its values, the first after a `=`, and each other after a `+`.
+/// Adds an attribute: its type, then its values, the first after a `=` and each other one after a
+/// `+`.
 fn push_attribute(printer: &mut Printer<'_>, attribute: &Attribute<'_>) -> Result<(), AllocError> {
     printer.push_str(", ")?;
     let identifier = attribute.type_();
@@ -38,7 +39,7 @@ fn push_attribute(printer: &mut Printer<'_>, attribute: &Attribute<'_>) -> Resul
     let mut mark = '=';
     for item in attribute.values().iter(printer.alloc) {
         let Ok(value) = item else {
-            // It was read before.
+            // The item was decoded before, so only memory can run out.
             return Err(AllocError);
         };
         push_marked(printer, mark, &value)?;

@@ -6,8 +6,8 @@ use der_asn1_types::asn1::BitStringRef;
 use std::alloc::AllocError;
 use std::fmt::Write;
 
-/// Adds how many octets a BIT STRING of whole octets has, and these; of another how many bits, and its
-/// octets.
+/// Adds the number of octets and the octets of a BIT STRING, or the number of bits and the octets
+/// if it is not a number of whole octets.
 pub fn push_bits(page: &mut Page, bits: &BitStringRef<'_>) -> Result<(), AllocError> {
     let octets = bits.raw_bytes();
     let count = octets.len();

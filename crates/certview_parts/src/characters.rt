@@ -1,4 +1,4 @@
-//! Characters from a message, so that they are safe to look at.
+//! Characters of a message in a form that is safe to display.
 
 ghost use Rattle.std.specs.Prelude.{◌≡◌};
 ghost use Rattle.certview_parts.specs.Characters.{is_hidden, is_plain};
@@ -8,22 +8,23 @@ use crate::page::Page;
 use std::alloc::{AllocError, Global};
 use unicode::properties::{GeneralCategory, is_default_ignorable_code_point};
 
-/// What may stand behind characters in a line.
+/// What may follow the characters in a line.
 #[derive(Clone, Copy, Debug, PartialEq, Eq)]
 pub enum Behind {
     /// A comma, a `+`, or the end of the line.
     Mark,
-    /// A space and one of `WORDS` too.
+    /// A mark, or a space and one of `WORDS`.
     Word,
 }
 
-/// The words that stand between values with a space before and behind them.
+/// The words between values, with a space before and after them.
 const WORDS: [&str; 4] = ["and", "from", "to", "with"];
 
-/// Adds characters as RFC 4514 section 2.4 writes them: with a `\` before those that it escapes, before
-/// a `#` or a space that begins the text, and before a space that ends it. Where a word may stand
-/// behind them, a `\` stands before a space that comes before such a word as well. Characters that a
-/// terminal does not show, or that act on it, are `\` and two digits for each octet of UTF-8.
+/// Adds characters as RFC 4514 section 2.4 writes them: with a `\` before those that it escapes,
+/// before a `#` or a space at the start of the text, and before a space at its end. If a word may
+/// follow the characters, a `\` also precedes each space before such a word. Characters that a
+/// terminal does not show, or that act on it, are written as `\` and two digits for each octet of
+/// UTF-8.
 pub fn push_escaped(page: &mut Page, characters: &str, behind: Behind) -> Result<(), AllocError> {
     match characters.strip_suffix(" ") {
         Some(front) => {
@@ -54,7 +55,7 @@ fn is_escaped(character: char, is_first: bool) -> bool {
     }
 }
 
-/// Whether the space before which so many octets stand comes before one of the words, as a whole.
+/// Returns whether the space at this offset precedes one of the words, as a whole.
 fn is_before_word(characters: &str, index: usize) -> bool {
     let rest = match characters.split_at_checked(index.saturating_add(1)) {
         Some((_, rest)) => rest,
@@ -68,7 +69,7 @@ fn is_before_word(characters: &str, index: usize) -> bool {
     false
 }
 
-/// Whether characters are a word, or begin with it and a space.
+/// Returns whether the characters are a word, or begin with it and a space.
 fn is_word(characters: &str, word: &str) -> bool {
     match characters.strip_prefix(word) {
         Some(after) => after.is_empty() || after.starts_with(" "),
@@ -76,8 +77,8 @@ fn is_word(characters: &str, word: &str) -> bool {
     }
 }
 
-/// Adds characters that are no part of a name: those that are not safe to look at as in a name, and
-/// others as they are.
+/// Adds characters outside of names. Those that are not safe to display are escaped as in a name;
+/// others are unchanged.
 pub fn push_plain(page: &mut Page, characters: &str) -> Result<(), AllocError> {
     for character in characters.chars() {
         push_character(page, character)?;
@@ -85,7 +86,7 @@ pub fn push_plain(page: &mut Page, characters: &str) -> Result<(), AllocError> {
     Ok(())
 }
 
-/// A text as it may be shown, as `push_plain` adds it.
+/// Returns a text in a form that is safe to display, as `push_plain` adds it.
 pub fn plain(alloc: Global, characters: &str) -> Result<String, AllocError> {
     let mut page = Page::new(alloc);
     push_plain(&mut page, characters)?;
@@ -104,9 +105,9 @@ fn push_character(page: &mut Page, character: char) -> Result<(), AllocError> {
     Ok(())
 }
 
-/// Whether a character is shown as it is: it is none of the categories Cc, Cf, Cs, Co, Cn, Zl and Zp of
-/// Unicode, of which those that change the direction of text are some, and none that a terminal shows as
-/// nothing.
+/// Returns whether a character is shown unchanged. It is not if it is in one of the Unicode
+/// categories Cc, Cf, Cs, Co, Cn, Zl and Zp, which include those that change the direction of
+/// text, or if a terminal shows nothing for it.
 pub fn is_plain(character: char) -> bool
     ensures { result ≡ is_plain character }
 {

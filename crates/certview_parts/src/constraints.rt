@@ -1,5 +1,5 @@
-//! The values of extensions that are numbers or hold some, as text (RFC 5280 sections 4.2.1.9, 4.2.1.11,
-//! 4.2.1.14, 5.2.3 and 5.2.4).
+//! The values of extensions that are numbers or contain some, as text (RFC 5280 sections 4.2.1.9,
+//! 4.2.1.11, 4.2.1.14, 5.2.3 and 5.2.4).
 
 use crate::hexadecimal::push_number_of;
 use crate::page::{Inner, Page, push_malformed};
@@ -9,7 +9,7 @@ use der_asn1_types::asn1::UintRef;
 use der_extensions::extension::{BasicConstraints, PolicyConstraints};
 use std::alloc::AllocError;
 
-/// Adds whether the key may sign certificates, and how many may follow.
+/// Adds whether the key may sign certificates, and how many more certificates may follow.
 pub fn push_constraints(printer: &mut Printer<'_>, inner: Inner<'_>) -> Result<(), AllocError> {
     printer.push_str(", ")?;
     match BasicConstraints::from_der(printer.alloc, inner.octets) {
@@ -27,7 +27,8 @@ fn push_authority(page: &mut Page, constraints: &BasicConstraints<'_>) -> Result
     push_count(page, "path length", constraints.path_len_constraint())
 }
 
-/// Adds after how many certificates a policy has to be there, and none may stand for another.
+/// Adds the number of certificates after which a policy is required, and the number after which
+/// mappings are not allowed.
 pub fn push_policy_constraints(
     printer: &mut Printer<'_>,
     inner: Inner<'_>,
@@ -59,8 +60,8 @@ fn push_count(
     }
 }
 
-/// Adds a number: that of a list, or of a list to which one adds, or after how many certificates no
-/// policy stands for any.
+/// Adds a number: the number of a list, the number of a delta's base list, or the number of
+/// certificates after which no policy matches any other.
 pub fn push_number(printer: &mut Printer<'_>, inner: Inner<'_>) -> Result<(), AllocError> {
     printer.push_str(", ")?;
     match UintRef::from_der(printer.alloc, inner.octets) {

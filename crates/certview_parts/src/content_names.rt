@@ -1,14 +1,15 @@
-//! Names of what stands in messages: types of contents, attributes, bags, and algorithms of encryption.
+//! The names of identifiers in messages: types of contents, attributes, bags, and encryption
+//! algorithms.
 //!
-//! A name is that of the ASN.1 module of its standard, without `id-` and what tells of which kind it is: RFC
-//! 2315, 2985, 3161, 3274, 3279, 3370, 3565, 5035, 5083, 5084, 5652, 5753, 6211, 6960, 7292, 7914, 8018, 8103
-//! and 8551, and NIST's register of algorithms for HMAC with SHA-3.
+//! A name is that of the ASN.1 module of its standard, without `id-` and the prefix for its kind:
+//! RFC 2315, 2985, 3161, 3274, 3279, 3370, 3565, 5035, 5083, 5084, 5652, 5753, 6211, 6960, 7292,
+//! 7914, 8018, 8103 and 8551, and NIST's register of algorithms for HMAC with SHA-3.
 
 use crate::identifier_names::Named;
 
-/// Types of contents, attributes of signers and of requests, bags of files of PKCS #12 and what stands in
-/// them, encryption with passwords, functions that make keys, ciphers, agreement on keys, and fields of
-/// curves.
+/// Types of contents, attributes of signers and of requests, bags of PKCS #12 files and their
+/// contents, encryption with passwords, key derivation functions, ciphers, key agreement, and
+/// fields of curves.
 pub const CONTENTS: [Named; 87] = [
     ("1.2.840.113549.1.7.1", "data"),
     ("1.2.840.113549.1.7.2", "signedData"),

@@ -1,13 +1,12 @@
-//! Times before 1970, which the standards have, and which are not read.
+//! Times before 1970, which the standards allow and the decoder refuses.
 
 use der_asn1_types::{DateTime, Error, ErrorKind, Tag};
 
-/// What is said of such a time, in the place of the words of its fault.
+/// The words for such a time, in place of the words of its error.
 pub const EARLY: &str = "a time before 1970, which is not read";
 
-/// Whether a fault of these octets was met at the end of a UTCTime of 1950 to 1969, or of a
-/// GeneralizedTime of an earlier year than 1970: a second of the calendar, in the form that DER has for
-/// it (X.690 11.7, 11.8).
+/// Returns whether an error is at the end of a UTCTime from 1950 to 1969, or of a GeneralizedTime
+/// before 1970. The time must be a second of the calendar, in the form of DER (X.690 11.7, 11.8).
 pub fn is_early(octets: &[u8], error: &Error) -> bool {
     let Some(position) = error.position else {
         return false;
@@ -22,7 +21,7 @@ pub fn is_early(octets: &[u8], error: &Error) -> bool {
     }
 }
 
-/// The last octets, so many; none where there are fewer.
+/// Returns the last `count` octets, or none if there are fewer.
 fn last_of(octets: &[u8], count: usize) -> &[u8] {
     let begin = octets.len().saturating_sub(count);
     match octets.get(begin..) {
@@ -31,8 +30,8 @@ fn last_of(octets: &[u8], count: usize) -> &[u8] {
     }
 }
 
-/// Whether these are the contents octets of a second from the beginning of the year `first` to the end
-/// of 1969, of whose year they leave out so many.
+/// Returns whether these are the contents octets of a second between the start of the year
+/// `first` and the end of 1969. The octets leave out `left_out` of the year.
 fn is_early_second(contents: &[u8], left_out: u64, first: u64) -> bool {
     let [digits @ .., b'Z'] = contents else {
         return false;
@@ -44,8 +43,8 @@ fn is_early_second(contents: &[u8], left_out: u64, first: u64) -> bool {
     first <= year && year < 1970 && is_second(year, number)
 }
 
-/// Whether the last ten digits of a number are a second of a year. The calendar of a year is that of
-/// the year 2000 years later.
+/// Returns whether the last ten digits of a number are a second of a year. A year has the
+/// calendar of the year 2000 years later.
 fn is_second(year: u64, number: u64) -> bool {
     let Ok(later) = u16::try_from(year.saturating_add(2000)) else {
         return false;
@@ -61,7 +60,7 @@ fn is_second(year: u64, number: u64) -> bool {
     .is_ok()
 }
 
-/// The number that digits stand for; none where there is another octet, or no octet.
+/// Returns the number that the digits express; none for another octet, or for no octet.
 fn number_of(digits: &[u8]) -> Option<u64> {
     let mut number: u64 = 0;
     for digit in digits {

@@ -1,4 +1,4 @@
-//! How something is encrypted with a password, as text (RFC 8018 appendix A, RFC 7292 appendix C).
+//! Encryption with a password as text (RFC 8018 appendix A, RFC 7292 appendix C).
 
 use crate::algorithms::push_algorithm;
 use crate::any_values::push_any;
@@ -14,8 +14,8 @@ use der_pkcs::pkcs12::constants::PKCS_12_PBE_IDS;
 use der_pkix::AlgorithmIdentifier;
 use std::alloc::AllocError;
 
-/// Adds the lines of an algorithm of encryption: what it is, and its parameters, those of PBES2, of PBES1
-/// and of PKCS #12 by their fields.
+/// Adds the lines of an encryption algorithm: its identifier and its parameters. The parameters
+/// of PBES2, of PBES1 and of PKCS #12 are shown field by field.
 pub fn push_encryption(
     printer: &mut Printer<'_>,
     place: &Place,
@@ -35,8 +35,8 @@ pub fn push_encryption(
     push_cipher(printer, place, field, algorithm)
 }
 
-/// Whether an algorithm has a salt and a count as its parameters: PBES1 (1.2.840.113549.1.5, 1 to 11) and
-/// the six of PKCS #12 (1.2.840.113549.1.12.1).
+/// Returns whether the parameters of an algorithm are a salt and a count: PBES1
+/// (1.2.840.113549.1.5, 1 to 11) and the six algorithms of PKCS #12 (1.2.840.113549.1.12.1).
 fn has_salt_and_count(identifier: &[u8]) -> bool {
     match identifier {
         [front @ .., last] if front == PKCS_5.as_slice() => *last <= 11,
@@ -67,8 +67,8 @@ fn push_scheme(printer: &mut Printer<'_>, place: &Place) -> Result<(), AllocErro
     }
 }
 
-/// Adds the fields of a function that makes a key of a password: those of PBKDF2, and else its parameters
-/// as they are encoded.
+/// Adds the fields of a key derivation function: those of PBKDF2, or else its parameters as they
+/// are encoded.
 pub fn push_derivation(
     printer: &mut Printer<'_>,
     place: &Place,
@@ -88,7 +88,7 @@ pub fn push_derivation(
     }
 }
 
-/// Adds the fields of PBKDF2-params; a function that is absent is HMAC with SHA-1.
+/// Adds the fields of PBKDF2-params. If the function is absent, it is HMAC with SHA-1.
 fn push_derivation_fields(
     printer: &mut Printer<'_>,
     place: &Place,
@@ -121,7 +121,8 @@ fn push_derivation_fields(
     }
 }
 
-/// Adds a line with a cipher and its parameters, which of many are an OCTET STRING, the first block.
+/// Adds a line with a cipher and its parameters. For many ciphers they are an OCTET STRING, the
+/// first block.
 pub fn push_cipher(
     printer: &mut Printer<'_>,
     place: &Place,

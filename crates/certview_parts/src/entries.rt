@@ -1,4 +1,4 @@
-//! The values of the extensions of a revoked entry as text (RFC 5280 section 5.3), but for names.
+//! The values of the extensions of a revoked entry as text (RFC 5280 section 5.3), except names.
 
 use crate::identifiers::push_identifier;
 use crate::page::{Inner, push_malformed, push_malformed_inner};
@@ -9,7 +9,7 @@ use der_asn1_types::asn1::Enumerated;
 use der_extensions::extension::{CrlReason, HoldInstructionCode, InvalidityDate};
 use std::alloc::AllocError;
 
-/// Adds why it is revoked.
+/// Adds the reason for the revocation.
 pub fn push_reason(printer: &mut Printer<'_>, inner: Inner<'_>) -> Result<(), AllocError> {
     printer.push_str(", ")?;
     match Enumerated::<CrlReason>::from_der(printer.alloc, inner.octets) {
@@ -18,7 +18,7 @@ pub fn push_reason(printer: &mut Printer<'_>, inner: Inner<'_>) -> Result<(), Al
     }
 }
 
-/// The name of a reason.
+/// Returns the name of a reason.
 pub fn name_of(reason: CrlReason) -> &'static str {
     match reason {
         CrlReason::Unspecified => "unspecified",
@@ -34,7 +34,7 @@ pub fn name_of(reason: CrlReason) -> &'static str {
     }
 }
 
-/// Adds since when the key was not to be relied on.
+/// Adds the time from which the key was not to be relied on.
 pub fn push_invalidity(printer: &mut Printer<'_>, inner: Inner<'_>) -> Result<(), AllocError> {
     printer.push_str(", ")?;
     match InvalidityDate::from_der(printer.alloc, inner.octets) {
@@ -43,7 +43,7 @@ pub fn push_invalidity(printer: &mut Printer<'_>, inner: Inner<'_>) -> Result<()
     }
 }
 
-/// Adds what to do with a certificate that is on hold.
+/// Adds the instruction for a certificate that is on hold.
 pub fn push_instruction(printer: &mut Printer<'_>, inner: Inner<'_>) -> Result<(), AllocError> {
     printer.push_str(", ")?;
     match HoldInstructionCode::from_der(printer.alloc, inner.octets) {

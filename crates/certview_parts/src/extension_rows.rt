@@ -1,4 +1,4 @@
-//! Extensions of messages that are held whole, a line each.
+//! Extensions of messages that are held whole, one line each.
 
 use crate::extensions::push_extension;
 use crate::field_name::FieldName;
@@ -20,7 +20,7 @@ pub fn push_extension_rows(
     for item in extensions.items().iter(printer.alloc) {
         let place = places.next_item().unwrap_or(nowhere());
         let Ok(extension) = item else {
-            // It was read before.
+            // The item was decoded before, so only memory can run out.
             return Err(AllocError);
         };
         push_extension_row(printer, &place, field, &extension)?;
@@ -39,7 +39,7 @@ fn push_extension_row(
     printer.push('\n')
 }
 
-/// Adds a line for each extension of a list that may be absent, and stands after an explicit tag.
+/// Adds a line for each extension of a list after an explicit tag. The list may be absent.
 pub fn push_explicit_extensions(
     printer: &mut Printer<'_>,
     place: &Place,
@@ -55,7 +55,7 @@ pub fn push_explicit_extensions(
     }
 }
 
-/// Adds the lines of the extensions that octets at this place are.
+/// Adds the lines of the extensions in this byte range.
 pub fn push_read_extensions(printer: &mut Printer<'_>, list: &Place) -> Result<(), AllocError> {
     let inner = printer.inner_at(list);
     match Extensions::from_der(printer.alloc, inner.octets) {

@@ -37,7 +37,7 @@ const ID_PE_AUTHORITY_INFO_ACCESS: &[u8] = &constants::ID_PE_AUTHORITY_INFO_ACCE
 /// The identifier of subjectInfoAccess (RFC 5280 section 4.2.2.2).
 const ID_PE_SUBJECT_INFO_ACCESS: &[u8] = &constants::ID_PE_SUBJECT_INFO_ACCESS;
 
-/// Adds an extension: what it is, whether it is critical, and its value.
+/// Adds an extension: its identifier, whether it is critical, and its value.
 pub fn push_extension(
     printer: &mut Printer<'_>,
     place: &Place,
@@ -55,7 +55,8 @@ pub fn push_extension(
     push_value(printer, identifier.as_bytes(), Inner { octets, begin })
 }
 
-/// Adds what the octets of an extension's value say; of one that is not known, the octets.
+/// Adds the meaning of the octets of an extension's value, or the octets if the extension is
+/// unknown.
 fn push_value(
     printer: &mut Printer<'_>,
     identifier: &[u8],
@@ -68,8 +69,8 @@ fn push_value(
     }
 }
 
-/// Adds what the octets of an extension's value say whose identifier has three octets, as those of RFC 5280
-/// sections 4.2.1, 5.2 and 5.3 have.
+/// Adds the meaning of the octets of an extension's value if its identifier has three octets, as
+/// those of RFC 5280 sections 4.2.1, 5.2 and 5.3 have.
 fn push_value_of(
     printer: &mut Printer<'_>,
     identifier: [u8; 3],

@@ -257,11 +257,11 @@ pub enum FieldName {
     WithCertificate,
 }
 
-/// How many names there are.
+/// The number of names.
 const COUNT: usize = 125;
 
-/// Each field name, in the order of its declaration, and its text: the label of the field, with a `-` for each
-/// space.
+/// Each field name, in the order of its declaration, and its text: the label of the field, with a
+/// `-` for each space.
 const NAMES: [(FieldName, &str); COUNT] = [
     (FieldName::A, "a"),
     (FieldName::Accuracy, "accuracy"),
@@ -414,7 +414,7 @@ const NAMES: [(FieldName, &str); COUNT] = [
     (FieldName::WithCertificate, "with-certificate"),
 ];
 
-/// The names in a table, in its order.
+/// Returns the names in a table, in its order.
 fn names_in(
     alloc: Global,
     table: &[(FieldName, &'static str)],
@@ -426,7 +426,7 @@ fn names_in(
     Ok(names)
 }
 
-/// The field that has this name in a table, if there is one.
+/// Returns the field with this name in a table, if there is one.
 fn field_in(table: &[(FieldName, &'static str)], name: &str) -> Option<FieldName> {
     for (field, own) in table {
         if *own == name {
@@ -437,22 +437,23 @@ fn field_in(table: &[(FieldName, &'static str)], name: &str) -> Option<FieldName
 }
 
 impl FieldName {
-    /// The names of all fields.
+    /// Returns the names of all fields.
     pub fn names(alloc: Global) -> Result<Vec<&'static str>, AllocError> {
         names_in(alloc, &NAMES)
     }
 
-    /// The field with this name, if there is one: `SignatureAlgorithm` of `signature-algorithm`.
+    /// Returns the field with this name, if there is one: `SignatureAlgorithm` for
+    /// `signature-algorithm`.
     pub fn with_name(name: &str) -> Option<FieldName> {
         field_in(&NAMES, name)
     }
 
-    /// The text of the name: `signature-algorithm` of `SignatureAlgorithm`.
+    /// Returns the text of the name: `signature-algorithm` for `SignatureAlgorithm`.
     pub fn name(self) -> &'static str {
         NAMES[self as usize].1
     }
 
-    /// Adds the label of the field: `signature algorithm` of `SignatureAlgorithm`.
+    /// Adds the label of the field: `signature algorithm` for `SignatureAlgorithm`.
     pub fn push_label(self, out: &mut String) -> Result<(), AllocError> {
         for character in self.name().chars() {
             out.push(if character == '-' { ' ' } else { character })?;

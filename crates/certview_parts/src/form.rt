@@ -7,16 +7,16 @@ use crate::place::Place;
 use std::alloc::{AllocError, Global};
 use std::fmt::Write;
 
-/// In which form fields are written.
+/// The form in which fields are written.
 #[derive(Clone, Copy, Debug, PartialEq, Eq)]
 pub enum Form {
-    /// For people, a line each.
+    /// For people, one line each.
     Text,
-    /// In one document of JSON, in which the input is the first or another one.
+    /// As part of a JSON document; true if the input is its first one.
     Json(bool),
 }
 
-/// Writes the items of pages, which follow one another.
+/// A writer of the items of successive pages.
 #[derive(Clone, Copy, Debug)]
 pub struct Writer<'a> {
     fields: Option<&'a [FieldName]>,
@@ -24,7 +24,7 @@ pub struct Writer<'a> {
 }
 
 impl<'a> Writer<'a> {
-    /// Writes in this form these fields, or all.
+    /// Returns a writer of these fields, or of all fields, in this form.
     pub fn new(form: Form, fields: Option<&'a [FieldName]>) -> Writer<'a> {
         Writer {
             fields,
@@ -55,7 +55,7 @@ impl<'a> Writer<'a> {
         Ok(())
     }
 
-    /// Adds what stands behind the last item.
+    /// Adds the text after the last item.
     pub fn end(&mut self, out: &mut String) -> Result<(), AllocError> {
         match &mut self.json {
             Some(json) => json.end(out),
@@ -63,7 +63,7 @@ impl<'a> Writer<'a> {
         }
     }
 
-    /// Whether an item is a field that is not asked for.
+    /// Returns whether an item is a field that was not asked for.
     fn is_left_out(&self, item: &Item) -> bool {
         match (self.fields, item.kind) {
             (Some(fields), ItemKind::Field(field, _)) => !fields.contains(&field),
@@ -72,7 +72,8 @@ impl<'a> Writer<'a> {
     }
 }
 
-/// Adds the line of an item. Where only some fields are asked for, the line of a message is left out.
+/// Adds the line of an item. If only some fields were asked for, the line of a message is left
+/// out.
 fn push_item(out: &mut String, entry: &Entry<'_>, has_titles: bool) -> Result<(), AllocError> {
     let (name, value) = (entry.name(), entry.value());
     match entry.item.kind {
@@ -105,7 +106,7 @@ fn push_heading(
     writeln!(out, "block {number} of {count}: {label}")
 }
 
-/// Adds how many octets stand before a field, and how many it has; no numbers of a field that is absent.
+/// Adds the offset and the length of a field; no numbers if it is absent.
 fn push_place(out: &mut String, place: &Place) -> Result<(), AllocError> {
     let (begin, count) = (place.offset, place.length);
     if count == 0 {

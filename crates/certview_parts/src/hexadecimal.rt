@@ -4,7 +4,7 @@ use crate::page::Page;
 use std::alloc::AllocError;
 use std::fmt::Write;
 
-/// Adds two digits an octet, with a colon between octets.
+/// Adds two digits for each octet, with a colon between octets.
 pub fn push_with_colons(page: &mut Page, octets: &[u8]) -> Result<(), AllocError> {
     let mut is_first = true;
     for octet in octets {
@@ -17,7 +17,7 @@ pub fn push_with_colons(page: &mut Page, octets: &[u8]) -> Result<(), AllocError
     Ok(())
 }
 
-/// Adds two digits an octet.
+/// Adds two digits for each octet.
 pub fn push_digits(page: &mut Page, octets: &[u8]) -> Result<(), AllocError> {
     for octet in octets {
         push_octet(page, *octet)?;
@@ -31,7 +31,7 @@ pub fn push_octet(page: &mut Page, octet: u8) -> Result<(), AllocError> {
     page.text.push(digit(octet & 15))
 }
 
-/// The digit of a number below 16.
+/// Returns the digit of a number below 16.
 fn digit(number: u8) -> char {
     match number {
         0..=9 => (b'0' + number) as char,
@@ -40,8 +40,8 @@ fn digit(number: u8) -> char {
     }
 }
 
-/// Adds a number that is not negative, of which these are the octets, high octet first: in decimal where
-/// it has up to 16 octets, and else `0x` and its digits, as OpenSSL does.
+/// Adds the non-negative number in these octets, high octet first: in decimal if it has up to 16
+/// octets, and else `0x` and its digits, as OpenSSL does.
 pub fn push_number_of(page: &mut Page, octets: &[u8]) -> Result<(), AllocError> {
     if octets.len() > 16 {
         page.text.push_str("0x")?;
@@ -54,8 +54,8 @@ pub fn push_number_of(page: &mut Page, octets: &[u8]) -> Result<(), AllocError> 
     write!(page.text, "{number}")
 }
 
-/// Adds the octets of an INTEGER as OpenSSL shows serial numbers: without an octet that is there for the
-/// sign alone, and with a `-` before the octets of the number that a negative one is the opposite of.
+/// Adds the octets of an INTEGER as OpenSSL shows serial numbers: without an octet that only
+/// carries the sign, and for a negative number with a `-` and the octets of its absolute value.
 pub fn push_serial(page: &mut Page, octets: &[u8]) -> Result<(), AllocError> {
     match octets {
         [0, rest @ ..] if !rest.is_empty() => push_with_colons(page, rest),
@@ -67,8 +67,8 @@ pub fn push_serial(page: &mut Page, octets: &[u8]) -> Result<(), AllocError> {
     }
 }
 
-/// Adds the octets of the opposite of a negative number: those before the last that is not zero are
-/// inverted, and that one is taken from 256.
+/// Adds the octets of the absolute value of a negative number: those before the last nonzero
+/// octet are inverted, and that one is subtracted from 256.
 fn push_opposite(page: &mut Page, octets: &[u8]) -> Result<(), AllocError> {
     let last = last_of_value(octets);
     let mut is_first = true;
@@ -90,7 +90,7 @@ fn push_opposite(page: &mut Page, octets: &[u8]) -> Result<(), AllocError> {
     Ok(())
 }
 
-/// The place of the last octet that is not zero.
+/// Returns the index of the last nonzero octet.
 fn last_of_value(octets: &[u8]) -> usize {
     let mut last = 0;
     for (index, octet) in octets.iter().enumerate() {

@@ -1,10 +1,10 @@
-//! Names of object identifiers.
+//! The names of object identifiers.
 //!
-//! An extension, a purpose and an algorithm have the names that the ASN.1 modules of their standards give
-//! them, without `id-` and what tells of which kind they are: RFC 5280, 3279, 4055, 5480, 5758, 5912,
-//! 6960, 6962, 8410, 8692, 9881 and 9935, the Baseline Requirements of the CA/Browser Forum for policies,
-//! and else the names of OpenSSL 3. An attribute has the short name of RFC 4519 and RFC 4514, and else
-//! OpenSSL's.
+//! An extension, a purpose and an algorithm have the names of the ASN.1 modules of their
+//! standards, without `id-` and the prefix for their kind: RFC 5280, 3279, 4055, 5480, 5758,
+//! 5912, 6960, 6962, 8410, 8692, 9881 and 9935, the Baseline Requirements of the CA/Browser Forum
+//! for policies, and else the names of OpenSSL 3. An attribute has the short name of RFC 4519 and
+//! RFC 4514, and else OpenSSL's.
 
 /// An identifier in dotted form, and its name.
 pub type Named = (&'static str, &'static str);
@@ -202,7 +202,7 @@ pub const EXTENSIONS: [Named; 62] = [
     ("1.3.6.1.4.1.311.25.2", "msNtdsCaSecurity"),
 ];
 
-/// Purposes of keys, methods of access, policies, and what a hold asks for.
+/// Purposes of keys, access methods, policies, and hold instructions.
 pub const PURPOSES: [Named; 57] = [
     ("1.3.6.1.5.5.7.3.1", "serverAuth"),
     ("1.3.6.1.5.5.7.3.2", "clientAuth"),
@@ -349,8 +349,8 @@ pub const ALGORITHMS: [Named; 79] = [
     ("1.2.643.7.1.1.3.3", "gost3410-2012-512-with-gost3411-2012"),
 ];
 
-/// Named curves (RFC 5480, SEC 2, RFC 5639): the identifier, the name, and how many bits an element of the
-/// field has.
+/// Named curves (RFC 5480, SEC 2, RFC 5639): the identifier, the name, and the number of bits of
+/// an element of the field.
 pub const CURVES: [(&str, &str, usize); 52] = [
     ("1.2.840.10045.3.1.7", "secp256r1", 256),
     ("1.3.132.0.34", "secp384r1", 384),

@@ -9,8 +9,8 @@ use crate::printer::Printer;
 use std::alloc::{AllocError, Global};
 use std::fmt::Write;
 
-/// Adds the identifier of these contents octets, and its name in brackets where it has one here. Octets
-/// that are none are noted.
+/// Adds the identifier in these contents octets, and in brackets its name if a table has one.
+/// Notes octets that are no identifier.
 pub fn push_identifier(printer: &mut Printer<'_>, identifier: &[u8]) -> Result<(), AllocError> {
     note_identifier(printer.page, identifier)?;
     let dotted = dotted(printer.alloc, identifier)?;
@@ -21,7 +21,7 @@ pub fn push_identifier(printer: &mut Printer<'_>, identifier: &[u8]) -> Result<(
     }
 }
 
-/// Adds the name of an attribute's identifier, and else the identifier (RFC 4514 section 2.3).
+/// Adds the name of an attribute's identifier, or else the identifier (RFC 4514 section 2.3).
 pub fn push_attribute_type(printer: &mut Printer<'_>, identifier: &[u8]) -> Result<(), AllocError> {
     note_identifier(printer.page, identifier)?;
     let dotted = dotted(printer.alloc, identifier)?;
@@ -31,7 +31,7 @@ pub fn push_attribute_type(printer: &mut Printer<'_>, identifier: &[u8]) -> Resu
     }
 }
 
-/// The name of an identifier, of whatever it is one.
+/// Returns the name of an identifier of any kind.
 fn name_of(dotted: &str) -> Option<&'static str> {
     if let Some(name) = name_in(&EXTENSIONS, dotted) {
         return Some(name);
@@ -51,7 +51,7 @@ fn name_of(dotted: &str) -> Option<&'static str> {
     }
 }
 
-/// The name that a table has for an identifier.
+/// Returns the name of an identifier in a table.
 fn name_in(table: &[Named], dotted: &str) -> Option<&'static str> {
     for (identifier, name) in table {
         if *identifier == dotted {
@@ -61,7 +61,7 @@ fn name_in(table: &[Named], dotted: &str) -> Option<&'static str> {
     None
 }
 
-/// The name of a curve, and how many bits an element of its field has.
+/// Returns the name of a curve, and the number of bits of an element of its field.
 fn curve_of(dotted: &str) -> Option<(&'static str, usize)> {
     for (identifier, name, bits) in &CURVES {
         if *identifier == dotted {
@@ -71,7 +71,8 @@ fn curve_of(dotted: &str) -> Option<(&'static str, usize)> {
     None
 }
 
-/// How many bits an element of the field of a curve has, if the curve of these contents octets is known.
+/// Returns the number of bits of an element of a curve's field, if the curve with these contents
+/// octets is known.
 pub fn curve_bits(alloc: Global, identifier: &[u8]) -> Result<Option<usize>, AllocError> {
     let dotted = dotted(alloc, identifier)?;
     match curve_of(dotted.as_str()) {
@@ -80,8 +81,8 @@ pub fn curve_bits(alloc: Global, identifier: &[u8]) -> Result<Option<usize>, All
     }
 }
 
-/// The arcs with dots between them; the octets as digits after a `#` where an arc passes 64 bits, where
-/// it is not in the fewest octets (X.690 8.19.2), or where the last one is cut short.
+/// Returns the arcs with dots between them. Returns `#` and the octets as digits if an arc
+/// exceeds 64 bits, is not in the fewest octets (X.690 8.19.2), or if the last one is cut short.
 fn dotted(alloc: Global, octets: &[u8]) -> Result<String, AllocError> {
     let mut page = Page::new(alloc);
     if push_arcs(&mut page, octets)? {
@@ -93,7 +94,7 @@ fn dotted(alloc: Global, octets: &[u8]) -> Result<String, AllocError> {
     Ok(page.text)
 }
 
-/// Adds the arcs, and answers whether these are all.
+/// Adds the arcs and returns whether these are all.
 fn push_arcs(page: &mut Page, octets: &[u8]) -> Result<bool, AllocError> {
     let mut arc: u64 = 0;
     let mut is_whole = true;
@@ -114,7 +115,7 @@ fn push_arcs(page: &mut Page, octets: &[u8]) -> Result<bool, AllocError> {
     Ok(is_whole && !octets.is_empty())
 }
 
-/// Adds an arc; the first number of all stands for two arcs (X.690 8.19.4).
+/// Adds an arc. The first number encodes two arcs (X.690 8.19.4).
 fn push_arc(page: &mut Page, arc: u64) -> Result<(), AllocError> {
     if !page.text.is_empty() {
         return write!(page.text, ".{arc}");

@@ -1,12 +1,12 @@
-//! Values that are shown all the same, though their contents octets are none of their type: the page
-//! notes it.
+//! Values that are shown although their contents octets are invalid for their type. The page
+//! notes the error.
 
 use crate::page::Page;
 use der_asn1_types::asn1::AnyRef;
 use der_asn1_types::{ErrorKind, Tag};
 use std::alloc::AllocError;
 
-/// Notes that the contents octets of a value are none of its type, if they are not.
+/// Notes the error if the contents octets of a value are invalid for its type.
 pub fn note_value(page: &mut Page, value: &AnyRef<'_>) -> Result<(), AllocError> {
     match fault_of(value.header().tag, value.value()) {
         Some(kind) => page.note(kind),
@@ -14,7 +14,7 @@ pub fn note_value(page: &mut Page, value: &AnyRef<'_>) -> Result<(), AllocError>
     }
 }
 
-/// Notes that contents octets are no OBJECT IDENTIFIER, if they are not.
+/// Notes the error if contents octets are no OBJECT IDENTIFIER.
 pub fn note_identifier(page: &mut Page, octets: &[u8]) -> Result<(), AllocError> {
     if is_identifier(octets) {
         return Ok(());
@@ -22,8 +22,9 @@ pub fn note_identifier(page: &mut Page, octets: &[u8]) -> Result<(), AllocError>
     page.note(ErrorKind::OidMalformed)
 }
 
-/// The fault of contents octets of these types, if they have one: BOOLEAN, INTEGER, BIT STRING, NULL,
-/// OBJECT IDENTIFIER, and the strings whose characters X.680 names. Of another type nothing is asked.
+/// Returns the error in contents octets of these types, if there is one: BOOLEAN, INTEGER, BIT
+/// STRING, NULL, OBJECT IDENTIFIER, and the strings whose characters X.680 names. Other types are
+/// not checked.
 fn fault_of(tag: Tag, octets: &[u8]) -> Option<ErrorKind> {
     match tag {
         Tag::Boolean => boolean_fault(octets),
@@ -40,7 +41,7 @@ fn fault_of(tag: Tag, octets: &[u8]) -> Option<ErrorKind> {
     }
 }
 
-/// The fault of a BOOLEAN (X.690 8.2.1, 11.1).
+/// Returns the error in a BOOLEAN (X.690 8.2.1, 11.1).
 fn boolean_fault(octets: &[u8]) -> Option<ErrorKind> {
     match octets {
         [0 | 0xff] => None,
@@ -49,7 +50,7 @@ fn boolean_fault(octets: &[u8]) -> Option<ErrorKind> {
     }
 }
 
-/// The fault of an INTEGER, which has the fewest octets (X.690 8.3).
+/// Returns the error in an INTEGER, which must have the fewest octets (X.690 8.3).
 fn integer_fault(octets: &[u8]) -> Option<ErrorKind> {
     match octets {
         [] => Some(Tag::Integer.non_canonical_error()),
@@ -59,7 +60,7 @@ fn integer_fault(octets: &[u8]) -> Option<ErrorKind> {
     }
 }
 
-/// The fault of a BIT STRING, whose unused bits are zero (X.690 8.6.2, 11.2.1).
+/// Returns the error in a BIT STRING, whose unused bits must be zero (X.690 8.6.2, 11.2.1).
 fn bits_fault(octets: &[u8]) -> Option<ErrorKind> {
     match octets {
         [] => Some(ErrorKind::Overflow),
@@ -70,7 +71,7 @@ fn bits_fault(octets: &[u8]) -> Option<ErrorKind> {
     }
 }
 
-/// Whether each number of an identifier ends, and is in the fewest octets (X.690 8.19.2).
+/// Returns whether each number of an identifier ends, and is in the fewest octets (X.690 8.19.2).
 fn is_identifier(octets: &[u8]) -> bool {
     let mut is_whole = true;
     for octet in octets {
@@ -82,7 +83,7 @@ fn is_identifier(octets: &[u8]) -> bool {
     is_whole && !octets.is_empty()
 }
 
-/// The fault of a BMPString, of which each two octets are a character (X.680 41.15).
+/// Returns the error in a BMPString, in which each two octets are a character (X.680 41.15).
 fn units_fault(octets: &[u8]) -> Option<ErrorKind> {
     if octets.len() % 2 != 0 {
         return Some(Tag::BmpString.length_error());
@@ -95,7 +96,7 @@ fn units_fault(octets: &[u8]) -> Option<ErrorKind> {
     None
 }
 
-/// The fault of a string of which each octet is a character.
+/// Returns the error in a string in which each octet is a character.
 fn characters_fault(tag: Tag, octets: &[u8]) -> Option<ErrorKind> {
     for octet in octets {
         if !may_stand_in(tag, *octet) {
@@ -105,7 +106,7 @@ fn characters_fault(tag: Tag, octets: &[u8]) -> Option<ErrorKind> {
     None
 }
 
-/// Whether an octet is a character of these strings (X.680 41).
+/// Returns whether an octet is a character of these strings (X.680 41).
 fn may_stand_in(tag: Tag, octet: u8) -> bool {
     match tag {
         Tag::NumericString => match octet {
@@ -119,7 +120,7 @@ fn may_stand_in(tag: Tag, octet: u8) -> bool {
     }
 }
 
-/// Whether an octet is a character of a PrintableString (X.680 table 10).
+/// Returns whether an octet is a character of a PrintableString (X.680 table 10).
 fn is_printable(octet: u8) -> bool {
     match octet {
         b'A'..=b'Z' | b'a'..=b'z' | b'0'..=b'9' | b' ' => true,

@@ -1,9 +1,9 @@
-//! The items of a list, where they stand in the octets.
+//! The items of a list and their byte ranges.
 
 use crate::place::Place;
 use der_places::{next_place, start_of_contents};
 
-/// Goes over the encodings that stand one after another in the contents octets of a list.
+/// An iterator over the successive encodings in the contents octets of a list.
 #[derive(Drop)]
 pub struct Items<'a> {
     octets: &'a [u8],
@@ -12,7 +12,7 @@ pub struct Items<'a> {
 }
 
 impl<'a> Items<'a> {
-    /// The items of the list at a place.
+    /// Returns an iterator over the items of the list in a byte range.
     pub fn within(octets: &'a [u8], list: &Place) -> Items<'a> {
         Items {
             octets,
@@ -21,7 +21,7 @@ impl<'a> Items<'a> {
         }
     }
 
-    /// The place of the next item, if there is one.
+    /// Returns the byte range of the next item, if there is one.
     pub fn next_item(&mut self) -> Option<Place> {
         if self.last.behind() >= self.end {
             return None;

@@ -1,5 +1,4 @@
-//! The items of a page as a part of a document of JSON, of which `docs/certview.schema.json` is the
-//! schema.
+//! The items of a page as part of a JSON document, whose schema is `docs/certview.schema.json`.
 
 use crate::page::{Entry, ItemKind, Page, Said, Span};
 use crate::place::Place;
@@ -7,28 +6,28 @@ use crate::quoted::quoted;
 use std::alloc::{AllocError, Global};
 use std::fmt::Write;
 
-/// How far an input is written.
+/// The part of an input that is written.
 #[derive(Clone, Copy, Debug, PartialEq, Eq)]
 enum State {
-    /// Not at all.
+    /// Nothing.
     Begin,
-    /// To its name.
+    /// Up to its name.
     Named,
-    /// To the label of a block.
+    /// Up to the label of a block.
     Headed,
-    /// To why a block is refused.
+    /// Up to the reason why a block is refused.
     Refused,
-    /// To the end of a message.
+    /// Up to the end of a message.
     Between,
-    /// To where the first field of a message stands.
+    /// Up to the start of a message's first field.
     Titled,
-    /// To the end of a field.
+    /// Up to the end of a field.
     Within,
-    /// To its end.
+    /// All of it.
     End,
 }
 
-/// Writes items in JSON, which follow one another.
+/// A writer of successive items in JSON.
 #[derive(Clone, Copy, Debug)]
 pub struct Json {
     is_first: bool,
@@ -36,7 +35,7 @@ pub struct Json {
 }
 
 impl Json {
-    /// The part of an input, the first of a document or another one.
+    /// Returns a writer for an input, the first of a document or another one.
     pub fn new(is_first: bool) -> Json {
         Json {
             is_first,
@@ -44,8 +43,8 @@ impl Json {
         }
     }
 
-    /// Adds an item. `said` is the number of errors that earlier items have; the result is the
-    /// number of errors before those of the next item.
+    /// Adds an item. `said` is the number of errors that earlier items have. Returns the number
+    /// of errors before those of the next item.
     pub fn add(
         &mut self,
         alloc: Global,
@@ -77,7 +76,7 @@ impl Json {
         Ok(said)
     }
 
-    /// Adds what stands behind the last item.
+    /// Adds the text after the last item.
     pub fn end(&mut self, out: &mut String) -> Result<(), AllocError> {
         self.end_message(out)?;
         match self.state {
@@ -178,7 +177,7 @@ impl Json {
         Ok(())
     }
 
-    /// Adds why a message of a block, or an input, is refused. The parts of it that can be read may follow.
+    /// Adds why the message of a block, or an input, is refused. Its readable parts may follow.
     fn push_refused(
         &mut self,
         alloc: Global,
@@ -198,7 +197,7 @@ impl Json {
     }
 }
 
-/// How many faults stand before those of an item, from so many on.
+/// Returns the number of errors before those of an item, counted from `said` on.
 fn first_of(entry: &Entry<'_>, said: usize) -> usize {
     let page = entry.page;
     let mut first = said;
@@ -211,7 +210,7 @@ fn first_of(entry: &Entry<'_>, said: usize) -> usize {
     first
 }
 
-/// The fault of an item, where it stands behind so many others.
+/// Returns error number `said` if it belongs to the item.
 fn fault_of(entry: &Entry<'_>, said: usize) -> Option<Said> {
     match entry.page.faults.as_slice().get(said) {
         Some(fault) if fault.item == entry.index => Some(*fault),
@@ -219,7 +218,7 @@ fn fault_of(entry: &Entry<'_>, said: usize) -> Option<Said> {
     }
 }
 
-/// Adds the errors of a field. `said` is the number of errors that earlier items have; the result is
+/// Adds the errors of a field. `said` is the number of errors that earlier items have. Returns
 /// the number of errors before those of the next item.
 fn push_malformed(
     alloc: Global,
@@ -246,7 +245,8 @@ fn push_malformed(
     Ok(after)
 }
 
-/// Adds a fault: its number, its words, its position and the field, each `null` where there is none.
+/// Adds an error: its number, its words, its position and its field, each `null` if there is
+/// none.
 fn push_fault(
     alloc: Global,
     out: &mut String,
@@ -272,7 +272,7 @@ fn push_fault(
     write!(out, "{field}}}")
 }
 
-/// Adds how many octets stand before a field, and how many it has; `null` twice of a field that is absent.
+/// Adds the offset and the length of a field, each `null` if the field is absent.
 fn push_place(out: &mut String, place: &Place) -> Result<(), AllocError> {
     let (begin, count) = (place.offset, place.length);
     if count == 0 {

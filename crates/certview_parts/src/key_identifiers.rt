@@ -18,8 +18,8 @@ pub fn push_subject_key(printer: &mut Printer<'_>, inner: Inner<'_>) -> Result<(
     }
 }
 
-/// Adds the identifier of the issuer's key, and the issuer's names and the serial number of the
-/// certificate of that key, where they are there.
+/// Adds the identifier of the issuer's key, and, if they are present, the issuer's names and the
+/// serial number of the certificate of that key.
 pub fn push_authority_key(printer: &mut Printer<'_>, inner: Inner<'_>) -> Result<(), AllocError> {
     match AuthorityKeyIdentifier::from_der(printer.alloc, inner.octets) {
         Ok(authority) => push_authority(printer, &authority),

@@ -1,6 +1,6 @@
-//! The parts of messages as text for people: names, keys, algorithms, times, extensions, attributes and other
-//! values, each with where it stands in the octets; and the page that they are put on, which is written as
-//! text or as JSON.
+//! The parts of messages as text for people: names, keys, algorithms, times, extensions,
+//! attributes and other values, each with its byte range; and the page that collects them and is
+//! written as text or as JSON.
 #![tactic(auto)]
 
 mod access;

@@ -1,4 +1,4 @@
-//! Names as text (RFC 4514, in the order in which the attributes stand).
+//! Names as text (RFC 4514, with the attributes in the order of the octets).
 
 use crate::characters::{Behind, push_escaped};
 use crate::field_name::FieldName;
@@ -24,7 +24,7 @@ pub fn push_name(
     printer.push('\n')
 }
 
-/// Adds the places of a name.
+/// Adds the relative names of a name.
 pub fn push_places(
     printer: &mut Printer<'_>,
     name: &Name<'_>,
@@ -33,7 +33,7 @@ pub fn push_places(
     let mut is_first = true;
     for item in name.items().iter(printer.alloc) {
         let Ok(place) = item else {
-            // It was read before.
+            // The item was decoded before, so only memory can run out.
             return Err(AllocError);
         };
         push_next_place(printer, is_first, &place, behind)?;
@@ -42,7 +42,7 @@ pub fn push_places(
     Ok(())
 }
 
-/// Adds a place of a name, after a comma if it is not the first.
+/// Adds a relative name, after a comma if it is not the first.
 fn push_next_place(
     printer: &mut Printer<'_>,
     is_first: bool,
@@ -55,7 +55,7 @@ fn push_next_place(
     push_attributes(printer, place, behind)
 }
 
-/// Adds the attributes of a place of a name.
+/// Adds the attributes of a relative name.
 pub fn push_attributes(
     printer: &mut Printer<'_>,
     place: &RelativeDistinguishedName<'_>,
@@ -64,7 +64,7 @@ pub fn push_attributes(
     let mut is_first = true;
     for item in place.items().iter(printer.alloc) {
         let Ok(attribute) = item else {
-            // It was read before.
+            // The item was decoded before, so only memory can run out.
             return Err(AllocError);
         };
         push_next_attribute(printer, is_first, &attribute, behind)?;
@@ -73,7 +73,7 @@ pub fn push_attributes(
     Ok(())
 }
 
-/// Adds an attribute, after a `+` if it is not the first of its place.
+/// Adds an attribute, after a `+` if it is not the first of its relative name.
 fn push_next_attribute(
     printer: &mut Printer<'_>,
     is_first: bool,
@@ -98,8 +98,8 @@ pub fn push_attribute(
     push_value(printer, attribute.value(), behind)
 }
 
-/// Adds a value: the characters of a string type, or else `#` and its encoding. Contents octets that
-/// are none of its type are noted.
+/// Adds a value: the characters of a string type, or else `#` and its encoding. Notes contents
+/// octets that are invalid for the type.
 pub fn push_value(
     printer: &mut Printer<'_>,
     value: &AnyRef<'_>,
@@ -117,8 +117,8 @@ pub fn push_value(
     }
 }
 
-/// Whether contents octets are characters of UTF-8, or of a part of it. Those of a TeletexString and of a
-/// GeneralString are, where they are of ASCII alone.
+/// Returns whether contents octets are characters of UTF-8, or of a part of it. Those of a
+/// TeletexString and of a GeneralString are if they are ASCII only.
 fn is_text(tag: Tag, octets: &[u8]) -> bool {
     match tag {
         Tag::Utf8String
@@ -131,7 +131,7 @@ fn is_text(tag: Tag, octets: &[u8]) -> bool {
     }
 }
 
-/// Adds the characters of a BMPString; its encoding where these are not all characters.
+/// Adds the characters of a BMPString, or its encoding if some of its units are no characters.
 fn push_units(
     printer: &mut Printer<'_>,
     value: &AnyRef<'_>,
@@ -144,7 +144,7 @@ fn push_units(
     push_encoding(printer, value)
 }
 
-/// Adds the character of each two octets, and answers whether these are all.
+/// Adds the character of each two octets and returns whether these are all.
 fn push_characters(characters: &mut String, octets: &[u8]) -> Result<bool, AllocError> {
     for index in 0..octets.len() / 2 {
         let unit = u16::from_be_bytes([octets[2 * index], octets[2 * index + 1]]);

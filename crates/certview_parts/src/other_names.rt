@@ -1,4 +1,4 @@
-//! Names of other kinds than those of directories, as text (RFC 5280 section 4.2.1.6).
+//! Names of other kinds than directory names, as text (RFC 5280 section 4.2.1.6).
 
 use crate::characters::{Behind, push_escaped};
 use crate::hexadecimal::push_digits;
@@ -12,7 +12,7 @@ use std::alloc::AllocError;
 use std::fmt::Write;
 use std::net::Ipv6Addr;
 
-/// Adds the names; `malformed` and the fault where the octets are no names.
+/// Adds the names; `malformed` and the error if the octets are no names.
 pub fn push_other_names(printer: &mut Printer<'_>, inner: Inner<'_>) -> Result<(), AllocError> {
     match SubjectAltName::from_der(printer.alloc, inner.octets) {
         Ok(names) => push_names(printer, "", &names),
@@ -20,7 +20,7 @@ pub fn push_other_names(printer: &mut Printer<'_>, inner: Inner<'_>) -> Result<(
     }
 }
 
-/// Adds each of the names, after a comma and what they are names of.
+/// Adds each of the names, after a comma and the name of its role.
 pub fn push_names(
     printer: &mut Printer<'_>,
     of: &str,
@@ -28,7 +28,7 @@ pub fn push_names(
 ) -> Result<(), AllocError> {
     for item in names.items().iter(printer.alloc) {
         let Ok(name) = item else {
-            // It was read before.
+            // The item was decoded before, so only memory can run out.
             return Err(AllocError);
         };
         push_name_of(printer, of, &name)?;
@@ -46,7 +46,7 @@ fn push_name_of(
     push_other_name(printer, name)
 }
 
-/// Adds a name: what it is of, and its value, behind which a word may stand.
+/// Adds a name: its kind and its value. A word may follow it.
 pub fn push_other_name(
     printer: &mut Printer<'_>,
     name: &GeneralName<'_>,
@@ -96,8 +96,8 @@ fn push_text(page: &mut Page, kind: &str, name: &str) -> Result<(), AllocError> 
     push_escaped(page, name, Behind::Word)
 }
 
-/// Adds an address: four numbers of four octets, of sixteen as RFC 5952 writes it, and of a range the
-/// first and the mask (RFC 5280 section 4.2.1.10); else `#` and the octets.
+/// Adds an address: four octets as four numbers, sixteen octets in the form of RFC 5952, a range
+/// as its first address and its mask (RFC 5280 section 4.2.1.10); else `#` and the octets.
 fn push_address(page: &mut Page, octets: &[u8]) -> Result<(), AllocError> {
     page.text.push_str("address ")?;
     match octets.len() {

@@ -1,4 +1,4 @@
-//! The fields of messages as they are found, before they are written.
+//! The fields of messages, collected before they are written.
 
 use crate::asked::Asked;
 use crate::early::{EARLY, is_early};
@@ -9,85 +9,87 @@ use der_asn1_types::{Error, ErrorKind, Tag};
 use std::alloc::{AllocError, Global};
 use std::fmt::Write;
 
-/// The fields of messages, in the order in which they stand, and what stands around them: each is an
-/// item. The texts of all stand in one `String`, one after another.
+/// The fields of messages in the order of the octets, and the headings around them: each is an
+/// item. The texts of all items are in one `String`, one after another.
 #[derive(Drop)]
 pub struct Page {
-    /// What the items are called, and what they say, each with a line feed behind it.
+    /// The names of the items and their values, each followed by a line feed.
     pub text: String,
     /// The items.
     pub items: Vec<Item>,
-    /// What is wrong, in the order of the items that it is said of.
+    /// The errors, in the order of their items.
     pub faults: Vec<Said>,
-    /// The words of what is wrong that the items do not say, one after another.
+    /// The words of the errors that the items do not show, one after another.
     pub notes: String,
-    /// What is asked of a message besides its fields.
+    /// The requests about a message besides its fields.
     pub asked: Asked,
-    /// Whether a part could not be read, of which the line says so, or is shown and is none of its type.
+    /// Whether a part could not be read, which its line says, or is shown although it is invalid
+    /// for its type.
     pub is_partial: bool,
-    /// Whether a message breaks a rule, or is not valid at the moment that is asked for.
+    /// Whether a message breaks a rule, or is not valid at the moment in question.
     pub has_findings: bool,
 }
 
 /// An item of a page.
 #[derive(Clone, Copy, Debug, PartialEq, Eq)]
 pub struct Item {
-    /// What it is.
+    /// Its kind.
     pub kind: ItemKind,
-    /// How many octets of the text stand before it: what it is called.
+    /// The offset of its name in the text.
     pub begin: usize,
-    /// How many octets of the text stand before what it says.
+    /// The offset of its value in the text.
     pub value: usize,
 }
 
-/// What an item is.
+/// The kind of an item.
 #[derive(Clone, Copy, Debug, PartialEq, Eq)]
 pub enum ItemKind {
-    /// An input: its name.
+    /// An input, with its name.
     Input,
-    /// One of several blocks of PEM text, by its number from 0 on, of so many: its label.
+    /// One of several blocks of PEM text: its number from 0 on, the number of blocks, and its
+    /// label.
     Block(usize, usize),
-    /// A message: what a person calls it, and where it stands.
+    /// A message: its name for people and its byte range.
     Message(Place),
-    /// A field of a message: its label, and what it says, and where it stands.
+    /// A field of a message: its label, its value and its byte range.
     Field(FieldName, Place),
-    /// That a message, or an input, is refused, and why.
+    /// The refusal of a message or of an input, and its reason.
     Refused,
 }
 
-/// What is wrong with an item, as its text says it, or the notes.
+/// An error of an item, whose words are in the item's text or in the notes.
 #[derive(Clone, Copy, Debug, PartialEq, Eq)]
 pub struct Said {
-    /// How many items stand before the one that it is said of.
+    /// The index of its item.
     pub item: usize,
-    /// The number of the fault of octets.
+    /// The number of the error.
     pub number: Option<u8>,
-    /// Where the words stand.
+    /// The range of the words.
     pub words: Span,
-    /// Whether they stand in the notes, and not in the text.
+    /// Whether the words are in the notes rather than in the text.
     pub is_noted: bool,
-    /// How many octets of the message had been read.
+    /// The number of octets of the message that had been read.
     pub position: Option<usize>,
-    /// Where the name of the field stands, if the fault has one.
+    /// The range of the name of the field, if the error has one.
     pub field: Span,
 }
 
 /// A part of the text of a page.
 #[derive(Clone, Copy, Debug, PartialEq, Eq)]
 pub struct Span {
-    /// How many octets stand before it.
+    /// The offset of its first octet.
     pub begin: usize,
-    /// How many octets stand before what follows it.
+    /// The offset of the octet after it.
     pub end: usize,
 }
 
 impl Page {
-    /// No fields, of a message of which nothing else is asked.
+    /// Returns a page without fields, for a message without further requests.
     pub fn new(alloc: Global) -> Page {
         Page::asking(alloc, Asked::nothing())
     }
 
-    /// No fields.
+    /// Returns a page without fields.
     pub fn asking(alloc: Global, asked: Asked) -> Page {
         Page {
             text: String::new(alloc),
@@ -100,7 +102,7 @@ impl Page {
         }
     }
 
-    /// Whether a message is begun.
+    /// Returns whether a message has begun.
     pub fn has_message(&self) -> bool {
         for item in &self.items {
             if let ItemKind::Message(_) = item.kind {
@@ -110,7 +112,7 @@ impl Page {
         false
     }
 
-    /// Begins an item that is called so. What it says is added to the text, and a line feed.
+    /// Begins an item with this name. The caller adds its value and a line feed to the text.
     pub fn begin(&mut self, kind: ItemKind, name: &str) -> Result<(), AllocError> {
         let begin = self.text.len();
         self.text.push_str(name)?;
@@ -119,7 +121,8 @@ impl Page {
         Ok(())
     }
 
-    /// Begins a field at a place. What it says is added to the text, and a line feed.
+    /// Begins a field with this byte range. The caller adds its value and a line feed to the
+    /// text.
     pub fn begin_field(&mut self, field: FieldName, place: &Place) -> Result<(), AllocError> {
         let begin = self.text.len();
         field.push_label(&mut self.text)?;
@@ -129,7 +132,7 @@ impl Page {
         Ok(())
     }
 
-    /// Notes what is wrong with the last item.
+    /// Records an error of the last item.
     pub fn say(
         &mut self,
         number: Option<u8>,
@@ -149,7 +152,8 @@ impl Page {
         Ok(())
     }
 
-    /// Notes that a value of the last item, which is shown, has contents octets with this fault.
+    /// Records that a value of the last item is shown although its contents octets have this
+    /// error.
     pub fn note(&mut self, kind: ErrorKind) -> Result<(), AllocError> {
         let begin = self.notes.len();
         write!(self.notes, "{kind}")?;
@@ -170,12 +174,12 @@ impl Page {
         Ok(())
     }
 
-    /// The part of the text that stands there.
+    /// Returns the text in a range.
     pub fn part(&self, span: Span) -> &str {
         part_of(self.text.as_str(), span)
     }
 
-    /// The words of a fault.
+    /// Returns the words of an error.
     pub fn words_of(&self, fault: &Said) -> &str {
         if fault.is_noted {
             part_of(self.notes.as_str(), fault.words)
@@ -185,19 +189,19 @@ impl Page {
     }
 }
 
-/// An item of a page, and what it is called and says there.
+/// An item of a page, with its name and its value.
 #[derive(Clone, Copy)]
 pub struct Entry<'a> {
     /// The page.
     pub page: &'a Page,
-    /// How many items stand before it.
+    /// The index of the item.
     pub index: usize,
     /// The item.
     pub item: Item,
 }
 
 impl<'a> Entry<'a> {
-    /// What the item is called.
+    /// Returns the name of the item.
     pub fn name(&self) -> &'a str {
         self.page.part(Span {
             begin: self.item.begin,
@@ -205,7 +209,7 @@ impl<'a> Entry<'a> {
         })
     }
 
-    /// What the item says, without the line feed.
+    /// Returns the value of the item, without the line feed.
     pub fn value(&self) -> &'a str {
         let end = match self.page.items.get(self.index.saturating_add(1)) {
             Some(next) => next.begin,
@@ -219,7 +223,7 @@ impl<'a> Entry<'a> {
     }
 }
 
-/// The part of a text that stands there; nothing where it is not all there.
+/// Returns the text in a range, or nothing if the range exceeds the text.
 fn part_of(text: &str, span: Span) -> &str {
     let Some((front, _)) = text.split_at_checked(span.end) else {
         return "";
@@ -231,7 +235,7 @@ fn part_of(text: &str, span: Span) -> &str {
 }
 
 impl Span {
-    /// No octets.
+    /// Returns the empty range.
     pub fn nothing() -> Span {
         Span { begin: 0, end: 0 }
     }
@@ -242,19 +246,19 @@ impl Span {
 pub struct Inner<'a> {
     /// The octets.
     pub octets: &'a [u8],
-    /// How many octets of the message stand before them.
+    /// Their offset in the message.
     pub begin: usize,
 }
 
-/// Adds `malformed` and what is wrong with octets that are read on their own, before which so many stand,
-/// unless memory ran out: the number of the fault, its words, and how many octets of the message had been
-/// read.
+/// Adds `malformed` and the error in octets that are read on their own, unless memory ran out:
+/// its number, its words, and the number of octets of the message that had been read. The octets
+/// are at offset `begin` of the message.
 pub fn push_malformed(page: &mut Page, begin: usize, error: Error) -> Result<(), AllocError> {
     push_fault(page, begin, &error, false)
 }
 
-/// Adds `malformed` and what is wrong with octets in which a time may stand: one before 1970 has words of its
-/// own.
+/// Adds `malformed` and the error in octets that may contain a time. A time before 1970 has words
+/// of its own.
 pub fn push_malformed_inner(
     page: &mut Page,
     inner: Inner<'_>,
@@ -282,8 +286,8 @@ fn push_fault(
     end_fault(page, number, words, place)
 }
 
-/// Adds `malformed`, and that so many contents octets of a BIT STRING are none of what it is to hold;
-/// so many octets of the message stand before its end.
+/// Adds `malformed`, and that the `count` contents octets of a BIT STRING are invalid for its
+/// purpose. It ends at offset `end` of the message.
 pub fn push_malformed_bits(
     page: &mut Page,
     count: usize,
@@ -302,7 +306,7 @@ pub fn push_malformed_bits(
     end_fault(page, number, words, Some(end))
 }
 
-/// Ends what is said of a fault, and notes it.
+/// Ends the text of an error and records it.
 fn end_fault(
     page: &mut Page,
     number: u8,
@@ -317,7 +321,7 @@ fn end_fault(
     }
 }
 
-/// Adds the words of a fault, which may be that of a time before 1970, and answers where they stand.
+/// Adds the words of an error and returns their range. A time before 1970 has words of its own.
 pub fn push_words(page: &mut Page, error: &Error, is_early: bool) -> Result<Span, AllocError> {
     let begin = page.text.len();
     let kind = error.kind;
@@ -333,7 +337,8 @@ pub fn push_words(page: &mut Page, error: &Error, is_early: bool) -> Result<Span
     })
 }
 
-/// How many octets of the message had been read at a fault in octets before which so many stand.
+/// Returns the number of octets of the message that had been read at an error in octets at offset
+/// `begin`.
 fn place_of(error: &Error, begin: usize) -> Option<usize> {
     let read = error.position?.value() as usize;
     Some(begin.saturating_add(read))

@@ -8,7 +8,7 @@ use der_asn1_types::asn1::GeneralizedTime;
 use der_extensions::extension::PrivateKeyUsagePeriod;
 use std::alloc::AllocError;
 
-/// Adds when the private key may first and last be used.
+/// Adds the times between which the private key may be used.
 pub fn push_period(printer: &mut Printer<'_>, inner: Inner<'_>) -> Result<(), AllocError> {
     match PrivateKeyUsagePeriod::from_der(printer.alloc, inner.octets) {
         Ok(period) => {

@@ -1,10 +1,10 @@
-//! Where values stand in octets, and the octets that stand there.
+//! The byte ranges of values, and the octets in them.
 
 use crate::page::Inner;
 pub use der_places::Place;
 use der_places::contents_of;
 
-/// The place of a message: all of the octets.
+/// Returns the byte range of a message: all of the octets.
 pub fn place_of_all(octets: &[u8]) -> Place {
     Place {
         offset: 0,
@@ -12,7 +12,7 @@ pub fn place_of_all(octets: &[u8]) -> Place {
     }
 }
 
-/// No octets, of what has no place.
+/// Returns the empty byte range, for a value that has none.
 pub fn nowhere() -> Place {
     Place {
         offset: 0,
@@ -20,14 +20,14 @@ pub fn nowhere() -> Place {
     }
 }
 
-/// The octets at a place; none where they are not all there.
+/// Returns the octets in a byte range, or none if the range exceeds the octets.
 pub fn octets_at<'a>(octets: &'a [u8], place: &Place) -> &'a [u8] {
     let begin = place.offset as usize;
     let end = place.behind() as usize;
     octets.get(begin..end).unwrap_or(&[])
 }
 
-/// The octets at a place, which are read on their own.
+/// Returns the octets in a byte range with their offset, to be read on their own.
 pub fn inner_at<'a>(octets: &'a [u8], place: &Place) -> Inner<'a> {
     Inner {
         octets: octets_at(octets, place),
@@ -35,7 +35,8 @@ pub fn inner_at<'a>(octets: &'a [u8], place: &Place) -> Inner<'a> {
     }
 }
 
-/// The contents octets of the encoding at a place, which are read on their own.
+/// Returns the contents octets of the encoding in a byte range with their offset, to be read on
+/// their own.
 pub fn contents_at<'a>(octets: &'a [u8], place: &Place) -> Inner<'a> {
     inner_at(octets, &contents_of(octets, *place))
 }

@@ -1,5 +1,5 @@
-//! The values of the extensions cRLDistributionPoints and freshestCRL as text (RFC 5280 sections 4.2.1.13
-//! and 4.2.1.15), which have one form, and of issuingDistributionPoint (section 5.2.5).
+//! The values of the extensions cRLDistributionPoints and freshestCRL as text (RFC 5280 sections
+//! 4.2.1.13 and 4.2.1.15), which have one form, and of issuingDistributionPoint (section 5.2.5).
 
 use crate::characters::Behind;
 use crate::names::push_attributes;
@@ -27,7 +27,7 @@ const REASONS: [&str; 9] = [
     "aACompromise",
 ];
 
-/// Adds where lists are to be had.
+/// Adds the locations of lists.
 pub fn push_points(printer: &mut Printer<'_>, inner: Inner<'_>) -> Result<(), AllocError> {
     let points = match CrlDistributionPoints::from_der(printer.alloc, inner.octets) {
         Ok(points) => points,
@@ -35,7 +35,7 @@ pub fn push_points(printer: &mut Printer<'_>, inner: Inner<'_>) -> Result<(), Al
     };
     for item in points.items().iter(printer.alloc) {
         let Ok(point) = item else {
-            // It was read before.
+            // The item was decoded before, so only memory can run out.
             return Err(AllocError);
         };
         push_point(printer, &point)?;
@@ -54,7 +54,7 @@ fn push_point(printer: &mut Printer<'_>, point: &DistributionPoint<'_>) -> Resul
     }
 }
 
-/// Adds the names of reasons after a label, where they are said.
+/// Adds the names of reasons after a label, if they are given.
 fn push_reasons(
     page: &mut Page,
     label: &str,
@@ -69,7 +69,7 @@ fn push_reasons(
     }
 }
 
-/// Adds where a list is to be had that has this extension, and what it has entries of.
+/// Adds the location of a list that has this extension, and the scope of its entries.
 pub fn push_issuing_point(printer: &mut Printer<'_>, inner: Inner<'_>) -> Result<(), AllocError> {
     match IssuingDistributionPoint::from_der(printer.alloc, inner.octets) {
         Ok(point) => {
@@ -82,7 +82,7 @@ pub fn push_issuing_point(printer: &mut Printer<'_>, inner: Inner<'_>) -> Result
     }
 }
 
-/// Adds what a list has entries of, where these are not all.
+/// Adds the scope of a list's entries, if it is limited.
 fn push_scope(page: &mut Page, point: &IssuingDistributionPoint<'_>) -> Result<(), AllocError> {
     let users = point.only_contains_user_certs();
     push_if(page, users, ", only user certificates")?;

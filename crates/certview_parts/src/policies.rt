@@ -1,5 +1,5 @@
-//! The values of the extensions certificatePolicies and policyMappings as text (RFC 5280 sections 4.2.1.4
-//! and 4.2.1.5).
+//! The values of the extensions certificatePolicies and policyMappings as text (RFC 5280 sections
+//! 4.2.1.4 and 4.2.1.5).
 
 use crate::characters::Behind;
 use crate::identifiers::push_identifier;
@@ -22,7 +22,7 @@ pub fn push_policies(printer: &mut Printer<'_>, inner: Inner<'_>) -> Result<(), 
     };
     for item in policies.items().iter(printer.alloc) {
         let Ok(policy) = item else {
-            // It was read before.
+            // The item was decoded before, so only memory can run out.
             return Err(AllocError);
         };
         push_policy(printer, &policy)?;
@@ -49,7 +49,7 @@ fn push_qualifiers<'a>(
 ) -> Result<(), AllocError> {
     for item in qualifiers.iter(printer.alloc) {
         let Ok(qualifier) = item else {
-            // It was read before.
+            // The item was decoded before, so only memory can run out.
             return Err(AllocError);
         };
         push_qualifier_info(printer, &qualifier)?;
@@ -57,7 +57,7 @@ fn push_qualifiers<'a>(
     Ok(())
 }
 
-/// Adds what a qualifier is, and its characters or its encoding.
+/// Adds the identifier of a qualifier, and its characters or its encoding.
 fn push_qualifier_info(
     printer: &mut Printer<'_>,
     qualifier: &PolicyQualifierInfo<'_>,
@@ -69,7 +69,8 @@ fn push_qualifier_info(
     push_qualifier(printer, qualifier.qualifier())
 }
 
-/// Adds a qualifier: its characters; of a notice for users, which is a SEQUENCE, those of its parts.
+/// Adds a qualifier: its characters, or the characters of its parts if it is a user notice, which
+/// is a SEQUENCE.
 fn push_qualifier(printer: &mut Printer<'_>, qualifier: &AnyRef<'_>) -> Result<(), AllocError> {
     if qualifier.header().tag != Tag::Sequence {
         return push_value(printer, qualifier, Behind::Word);
@@ -84,7 +85,8 @@ fn push_qualifier(printer: &mut Printer<'_>, qualifier: &AnyRef<'_>) -> Result<(
     }
 }
 
-/// Adds the parts of a notice, with `and` between two: a text as it is, others as they are encoded.
+/// Adds the parts of a notice, with `and` between two: a text as its characters, others as they
+/// are encoded.
 fn push_parts(printer: &mut Printer<'_>, parts: &[AnyRef<'_>]) -> Result<(), AllocError> {
     let mut is_first = true;
     for part in parts {
@@ -97,7 +99,7 @@ fn push_parts(printer: &mut Printer<'_>, parts: &[AnyRef<'_>]) -> Result<(), All
     Ok(())
 }
 
-/// Adds the policies that the issuer takes for others of the subject.
+/// Adds the policies of the issuer and the policies of the subject that they are equivalent to.
 pub fn push_mappings(printer: &mut Printer<'_>, inner: Inner<'_>) -> Result<(), AllocError> {
     let mappings = match PolicyMappings::from_der(printer.alloc, inner.octets) {
         Ok(mappings) => mappings,
@@ -105,7 +107,7 @@ pub fn push_mappings(printer: &mut Printer<'_>, inner: Inner<'_>) -> Result<(), 
     };
     for item in mappings.items().iter(printer.alloc) {
         let Ok(mapping) = item else {
-            // It was read before.
+            // The item was decoded before, so only memory can run out.
             return Err(AllocError);
         };
         push_mapping(printer, &mapping)?;

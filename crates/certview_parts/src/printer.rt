@@ -1,4 +1,4 @@
-//! What prints the fields of a message.
+//! The printer of the fields of a message.
 
 use crate::field_name::FieldName;
 use crate::items::Items;
@@ -8,19 +8,19 @@ use der_asn1_types::Error;
 use der_places::{Placed, contents_of, places_of};
 use std::alloc::{AllocError, Global};
 
-/// Prints the fields of a message on a page.
+/// A printer of the fields of a message on a page.
 #[derive(Drop)]
 pub struct Printer<'a> {
-    /// Where values take their memory.
+    /// The allocator for values.
     pub alloc: Global,
     /// The page.
     pub page: &'a mut Page,
-    /// The octets of the message, in which the fields stand.
+    /// The octets of the message.
     pub octets: &'a [u8],
 }
 
 impl<'a> Printer<'a> {
-    /// Prints the fields of the message of these octets.
+    /// Returns a printer of the fields of the message in these octets.
     pub fn new(alloc: Global, page: &'a mut Page, octets: &'a [u8]) -> Printer<'a> {
         Printer {
             alloc,
@@ -29,23 +29,23 @@ impl<'a> Printer<'a> {
         }
     }
 
-    /// Begins a field, which stands at this place. What it says is added to the text, and a line feed. A field
-    /// that is absent has no octets.
+    /// Begins a field with this byte range. The caller adds its value and a line feed to the
+    /// text. A field that is absent has no octets.
     pub fn begin(&mut self, place: &Place, field: FieldName) -> Result<(), AllocError> {
         self.page.begin_field(field, place)
     }
 
-    /// Adds a character to what the field says.
+    /// Adds a character to the value of the field.
     pub fn push(&mut self, character: char) -> Result<(), AllocError> {
         self.page.text.push(character)
     }
 
-    /// Adds characters to what the field says.
+    /// Adds characters to the value of the field.
     pub fn push_str(&mut self, characters: &str) -> Result<(), AllocError> {
         self.page.text.push_str(characters)
     }
 
-    /// Adds a comma, and what is wrong with a value of octets that are read on their own.
+    /// Adds a comma, and the error in a value whose octets are read on their own.
     pub fn push_malformed_value(
         &mut self,
         inner: Inner<'_>,
@@ -55,32 +55,33 @@ impl<'a> Printer<'a> {
         push_malformed(self.page, inner.begin, error)
     }
 
-    /// The octets at a place.
+    /// Returns the octets in a byte range.
     pub fn octets_at(&self, place: &Place) -> &'a [u8] {
         octets_at(self.octets, place)
     }
 
-    /// The octets at a place, which are read on their own.
+    /// Returns the octets in a byte range with their offset, to be read on their own.
     pub fn inner_at(&self, place: &Place) -> Inner<'a> {
         inner_at(self.octets, place)
     }
 
-    /// The contents octets of the encoding at a place, which are read on their own.
+    /// Returns the contents octets of the encoding in a byte range with their offset, to be read
+    /// on their own.
     pub fn contents_at(&self, place: &Place) -> Inner<'a> {
         contents_at(self.octets, place)
     }
 
-    /// The place of the contents octets of the encoding at a place.
+    /// Returns the byte range of the contents octets of the encoding in a byte range.
     pub fn contents_of(&self, place: Place) -> Place {
         contents_of(self.octets, place)
     }
 
-    /// The places of the fields of a value, which stands at a place.
+    /// Returns the byte ranges of the fields of a value that is in a byte range.
     pub fn places_of<T: Placed>(&self, value: &T, place: &Place) -> <T as Placed>::Places {
         places_of(value, self.octets, place.offset)
     }
 
-    /// The items of the list at a place.
+    /// Returns the items of the list in a byte range.
     pub fn items(&self, list: &Place) -> Items<'a> {
         Items::within(self.octets, list)
     }

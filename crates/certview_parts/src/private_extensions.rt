@@ -1,4 +1,4 @@
-//! Extensions that RFC 5280 has not, as text.
+//! Extensions outside RFC 5280, as text.
 
 use crate::any_values::push_any;
 use crate::extensions::push_unknown;
@@ -26,10 +26,10 @@ const ID_POISON: &[u8] = &transparency::ID_POISON;
 /// A nonce of OCSP (RFC 6960 section 4.4.1).
 const ID_PKIX_OCSP_NONCE: &[u8] = &ocsp::ID_PKIX_OCSP_NONCE;
 
-/// The types of response that are accepted (RFC 6960 section 4.4.3).
+/// The accepted response types (RFC 6960 section 4.4.3).
 const ID_PKIX_OCSP_RESPONSE: &[u8] = &ocsp::ID_PKIX_OCSP_RESPONSE;
 
-/// That a responder is not checked (RFC 6960 section 4.2.2.2.1).
+/// The mark of a responder that is not checked (RFC 6960 section 4.2.2.2.1).
 const ID_PKIX_OCSP_NOCHECK: &[u8] = &ocsp::ID_PKIX_OCSP_NOCHECK;
 
 /// An archive cutoff (RFC 6960 section 4.4.4).
@@ -38,7 +38,7 @@ const ID_PKIX_OCSP_ARCHIVE_CUTOFF: &[u8] = &ocsp::ID_PKIX_OCSP_ARCHIVE_CUTOFF;
 /// tlsFeature, 1.3.6.1.5.5.7.1.24 (RFC 7633 section 6).
 const TLS_FEATURE: &[u8] = &[0x2b, 6, 1, 5, 5, 7, 1, 24];
 
-/// What stands before the last arc of each extension of Netscape: 2.16.840.1.113730.1.
+/// The octets before the last arc of each Netscape extension: 2.16.840.1.113730.1.
 const NETSCAPE: &[u8] = &[0x60, 0x86, 0x48, 1, 0x86, 0xf8, 0x42, 1];
 
 /// netscapeCertType, 2.16.840.1.113730.1.1.
@@ -74,9 +74,10 @@ const NETSCAPE_TYPES: [&str; 8] = [
     "objectSigningCA",
 ];
 
-/// Adds what the octets of an extension's value say that RFC 5280 has not: those of Certificate
-/// Transparency (RFC 6962), of Netscape (2.16.840.1.113730.1), of Microsoft (1.3.6.1.4.1.311), of OCSP
-/// (RFC 6960 section 4.4) and of TLS (RFC 7633); of one that is not known, the octets.
+/// Adds the meaning of the octets of an extension's value outside RFC 5280: the extensions of
+/// Certificate Transparency (RFC 6962), of Netscape (2.16.840.1.113730.1), of Microsoft
+/// (1.3.6.1.4.1.311), of OCSP (RFC 6960 section 4.4) and of TLS (RFC 7633). Adds the octets of an
+/// unknown extension.
 pub fn push_private(
     printer: &mut Printer<'_>,
     identifier: &[u8],
@@ -98,7 +99,7 @@ pub fn push_private(
     }
 }
 
-/// Adds a value of a type that its tag tells.
+/// Adds a value whose tag gives its type.
 fn push_one(printer: &mut Printer<'_>, inner: Inner<'_>) -> Result<(), AllocError> {
     printer.push_str(", ")?;
     match AnyRef::from_der(printer.alloc, inner.octets) {
@@ -110,7 +111,7 @@ fn push_one(printer: &mut Printer<'_>, inner: Inner<'_>) -> Result<(), AllocErro
     }
 }
 
-/// Adds each value of a SEQUENCE of values of types that their tags tell.
+/// Adds each value of a SEQUENCE of values whose tags give their types.
 fn push_each(printer: &mut Printer<'_>, inner: Inner<'_>) -> Result<(), AllocError> {
     match AnyRef::from_der(printer.alloc, inner.octets) {
         Ok(list) if list.header().tag == Tag::Sequence => push_items(printer, inner),
@@ -140,7 +141,7 @@ fn push_items(printer: &mut Printer<'_>, inner: Inner<'_>) -> Result<(), AllocEr
     Ok(())
 }
 
-/// Adds the names of the bits that are set.
+/// Adds the names of the set bits.
 fn push_netscape_type(printer: &mut Printer<'_>, inner: Inner<'_>) -> Result<(), AllocError> {
     match BitStringRef::from_der(printer.alloc, inner.octets) {
         Ok(bits) => push_types(printer.page, bits.raw_bytes()),
@@ -163,8 +164,8 @@ fn push_types(page: &mut Page, octets: &[u8]) -> Result<(), AllocError> {
     Ok(())
 }
 
-/// Adds the version of a CA of Microsoft: of its certificates, and of their keys, which are the upper 16
-/// bits of the number.
+/// Adds the version of a Microsoft CA: that of its certificates, and that of their keys, which is
+/// the upper 16 bits of the number.
 fn push_version(printer: &mut Printer<'_>, inner: Inner<'_>) -> Result<(), AllocError> {
     printer.push_str(", ")?;
     match u32::from_der(printer.alloc, inner.octets) {

@@ -1,4 +1,4 @@
-//! Lines of one value each.
+//! Lines with one value each.
 
 use crate::algorithms::bits_of;
 use crate::characters::{Behind, push_escaped};
@@ -25,7 +25,7 @@ pub fn push_identifier_row(
     printer.push('\n')
 }
 
-/// Adds a line with octets, and how many there are.
+/// Adds a line with octets and their number.
 pub fn push_octets_row(
     printer: &mut Printer<'_>,
     place: &Place,
@@ -39,7 +39,7 @@ pub fn push_octets_row(
     printer.push('\n')
 }
 
-/// Adds a line with how many octets there are, which are not shown.
+/// Adds a line with the number of octets, which are not shown.
 pub fn push_length_row(
     printer: &mut Printer<'_>,
     place: &Place,
@@ -63,8 +63,8 @@ pub fn push_text_row(
     printer.push('\n')
 }
 
-/// Adds a line with a number that is not negative, of which these are the octets: in decimal, and where it
-/// has more than 16 octets how many bits it has, and its digits.
+/// Adds a line with the non-negative number in these octets: in decimal, or, if it has more than
+/// 16 octets, with its number of bits and its digits.
 pub fn push_number_row(
     printer: &mut Printer<'_>,
     place: &Place,
@@ -82,8 +82,8 @@ pub fn push_number_row(
     printer.push('\n')
 }
 
-/// Adds a line with the number that the contents octets of an INTEGER are; a negative one is shown as a serial
-/// number is.
+/// Adds a line with the number in the contents octets of an INTEGER. A negative number has the
+/// form of a serial number.
 pub fn push_signed_row(
     printer: &mut Printer<'_>,
     place: &Place,
@@ -108,7 +108,7 @@ pub fn push_integer_row(
     writeln!(printer.page.text, "{number}")
 }
 
-/// Adds a line with the octets of a number, as those of a serial number are shown.
+/// Adds a line with the octets of a number, in the form of a serial number.
 pub fn push_serial_row(
     printer: &mut Printer<'_>,
     place: &Place,
@@ -132,7 +132,8 @@ pub fn push_time_row(
     printer.push('\n')
 }
 
-/// Adds a line with what is wrong with octets that are read on their own, before which so many stand.
+/// Adds a line with the error in octets that are read on their own, at offset `begin` of the
+/// message.
 pub fn push_malformed_row(
     printer: &mut Printer<'_>,
     place: &Place,
@@ -145,7 +146,8 @@ pub fn push_malformed_row(
     printer.push('\n')
 }
 
-/// Adds a line with what is wrong with octets in which a time may stand: one before 1970 has words of its own.
+/// Adds a line with the error in octets that may contain a time. A time before 1970 has words of
+/// its own.
 pub fn push_malformed_inner_row(
     printer: &mut Printer<'_>,
     place: &Place,
@@ -158,7 +160,7 @@ pub fn push_malformed_inner_row(
     printer.push('\n')
 }
 
-/// Adds a line with how many there are of what the field lists.
+/// Adds a line with the number of things that the field lists.
 pub fn push_count_row(
     printer: &mut Printer<'_>,
     place: &Place,

@@ -1,4 +1,4 @@
-//! Signatures of messages, and certificates beside them, as text.
+//! Signatures of messages, and the certificates beside them, as text.
 
 use crate::algorithms::push_algorithm;
 use crate::bit_strings::push_bits;
@@ -14,7 +14,7 @@ use der_pkix::AlgorithmIdentifier;
 use der_pkix::certificate::Certificate;
 use std::alloc::AllocError;
 
-/// Adds the lines of a signature that is a BIT STRING: its algorithm, where that stands, and itself.
+/// Adds the line of a signature's algorithm and the line of the signature, which is a BIT STRING.
 pub fn push_signature_rows(
     printer: &mut Printer<'_>,
     algorithm_place: &Place,
@@ -43,7 +43,7 @@ pub fn push_certificate_rows<'a>(
     for item in certificates.iter(printer.alloc) {
         let place = places.next_item().unwrap_or(nowhere());
         let Ok(certificate) = item else {
-            // It was read before.
+            // The item was decoded before, so only memory can run out.
             return Err(AllocError);
         };
         push_certificate_row(printer, &place, &certificate)?;

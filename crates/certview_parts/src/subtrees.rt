@@ -8,7 +8,7 @@ use der_extensions::extension::{GeneralSubtree, GeneralSubtrees, NameConstraints
 use std::alloc::AllocError;
 use std::fmt::Write;
 
-/// Adds the names that a certificate below may have, and those that it may not.
+/// Adds the names that a certificate below may have, and those that it must not have.
 pub fn push_name_constraints(
     printer: &mut Printer<'_>,
     inner: Inner<'_>,
@@ -40,7 +40,7 @@ fn push_each(
 ) -> Result<(), AllocError> {
     for item in subtrees.items().iter(printer.alloc) {
         let Ok(subtree) = item else {
-            // It was read before.
+            // The item was decoded before, so only memory can run out.
             return Err(AllocError);
         };
         push_subtree(printer, label, &subtree)?;
@@ -58,7 +58,7 @@ fn push_subtree(
     push_distances(printer.page, subtree.minimum(), subtree.maximum())
 }
 
-/// Adds how far below the base the names begin and end, where that is said.
+/// Adds the distances below the base at which the names begin and end, if they are given.
 fn push_distances(page: &mut Page, minimum: u8, maximum: Option<u8>) -> Result<(), AllocError> {
     if minimum > 0 {
         write!(page.text, " from {minimum}")?;

@@ -71,7 +71,7 @@ pub fn push_fractional_time(
     page.text.push_str(" UTC")
 }
 
-/// The date and time, in either of its two forms.
+/// Returns the date and time of either form.
 fn date_time_of(time: &Time) -> DateTime {
     match time {
         Time::UtcTime(time) => time.to_date_time(),

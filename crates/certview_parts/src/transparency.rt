@@ -1,5 +1,5 @@
-//! Lists of signed certificate timestamps as text (RFC 6962 sections 3.2 and 3.3): octets of TLS's coding
-//! in an OCTET STRING.
+//! Lists of signed certificate timestamps as text (RFC 6962 sections 3.2 and 3.3): octets in the
+//! coding of TLS in an OCTET STRING.
 
 use crate::hexadecimal::{push_digits, push_with_colons};
 use crate::page::{Inner, Page, push_malformed};
@@ -18,7 +18,7 @@ const HASHES: [&str; 7] = [
 /// The names of the numbers of signature algorithms, from 0 on (RFC 5246 section 7.4.1.4.1).
 const SIGNATURES: [&str; 4] = ["anonymous", "rsa", "dsa", "ecdsa"];
 
-/// What a signed certificate timestamp of version 1 says.
+/// The contents of a signed certificate timestamp of version 1.
 #[derive(Clone, Copy, Debug, PartialEq, Eq)]
 struct Stamp<'a> {
     log: &'a [u8],
@@ -40,7 +40,7 @@ pub fn push_stamps(printer: &mut Printer<'_>, inner: Inner<'_>) -> Result<(), Al
     }
 }
 
-/// Adds the timestamps of a list, of which there is at least one.
+/// Adds the timestamps of a list, which must have at least one.
 fn push_each(page: &mut Page, begin: usize, list: &[u8]) -> Result<(), AllocError> {
     if list.is_empty() {
         return push_wrong(page, begin);
@@ -59,7 +59,7 @@ fn push_each(page: &mut Page, begin: usize, list: &[u8]) -> Result<(), AllocErro
     Ok(())
 }
 
-/// Adds a timestamp; of a version that is not known, its octets.
+/// Adds a timestamp, or its octets if its version is unknown.
 fn push_stamp(page: &mut Page, begin: usize, octets: &[u8]) -> Result<(), AllocError> {
     match octets {
         [0, rest @ ..] => match stamp_of(rest) {
@@ -117,7 +117,7 @@ fn push_named(page: &mut Page, names: &[&'static str], number: u8) -> Result<(),
     }
 }
 
-/// Adds that octets are no list of TLS's coding.
+/// Adds that octets are no list in the coding of TLS.
 fn push_wrong(page: &mut Page, begin: usize) -> Result<(), AllocError> {
     page.text.push_str(", ")?;
     let kind = ErrorKind::Length {
@@ -126,7 +126,8 @@ fn push_wrong(page: &mut Page, begin: usize) -> Result<(), AllocError> {
     push_malformed(page, begin, Error::from_kind(kind))
 }
 
-/// The octets of which the number stands before them in two octets, and what stands after them.
+/// Splits octets that begin with a two-octet number: returns that number of octets, and the
+/// octets after them.
 fn counted(octets: &[u8]) -> Option<(&[u8], &[u8])> {
     let [high, low, rest @ ..] = octets else {
         return None;
@@ -135,7 +136,8 @@ fn counted(octets: &[u8]) -> Option<(&[u8], &[u8])> {
     Some((rest.get(..count)?, rest.get(count..)?))
 }
 
-/// What stands after a version of 1: the log, the time, the extensions, and what is signed with what.
+/// Returns the fields after a version of 1: the log, the time, the extensions, the algorithms and
+/// the signature.
 fn stamp_of(octets: &[u8]) -> Option<Stamp<'_>> {
     let log = octets.get(..32)?;
     let [a, b, c, d, e, f, g, h, rest @ ..] = octets.get(32..)? else {

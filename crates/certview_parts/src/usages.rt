@@ -1,5 +1,5 @@
 //! The values of the extensions keyUsage and extKeyUsage as text (RFC 5280 sections 4.2.1.3 and
-//! 4.2.1.12), and other bits that have names.
+//! 4.2.1.12), and other named bits.
 
 use crate::identifiers::push_identifier;
 use crate::page::{Inner, Page};
@@ -23,7 +23,7 @@ const USAGES: [&str; 9] = [
     "decipherOnly",
 ];
 
-/// Adds the names of the bits that are set.
+/// Adds the names of the set bits.
 pub fn push_usage(printer: &mut Printer<'_>, inner: Inner<'_>) -> Result<(), AllocError> {
     match KeyUsage::from_der(printer.alloc, inner.octets) {
         Ok(usage) => push_bits(printer.page, &USAGES, usage),
@@ -31,7 +31,8 @@ pub fn push_usage(printer: &mut Printer<'_>, inner: Inner<'_>) -> Result<(), All
     }
 }
 
-/// Adds the names of the bits that are set, each after a comma; a bit that has none, by its number.
+/// Adds the names of the set bits, each after a comma. A bit without a name is shown by its
+/// number.
 pub fn push_bits(
     page: &mut Page,
     names: &[&'static str],
@@ -68,7 +69,7 @@ pub fn push_purposes(printer: &mut Printer<'_>, inner: Inner<'_>) -> Result<(), 
     for item in purposes.items().iter(printer.alloc) {
         match item {
             Ok(purpose) => push_purpose(printer, purpose.as_bytes())?,
-            // It was read before.
+            // The item was decoded before, so only memory can run out.
             Err(_) => return Err(AllocError),
         }
     }

@@ -1,11 +1,11 @@
-//! Values that stand one after another in octets.
+//! Successive values in octets.
 
 ghost use Rattle.std.specs.Prelude.{◌≡◌, ◌≤◌, length};
 ghost use Rattle.certview_parts.specs.Values.{at_most, sizes, after_header, after_value, contents};
 
 use der_asn1_types::{Header, Reader, SliceReader};
 
-/// A number of octets, as far as there are so many.
+/// Returns `count`, but at most `most`.
 fn at_most(most: usize, count: u64) -> usize
     ensures count { result ≡ at_most most count }
     ensures inside { result ≤ most }
@@ -17,8 +17,8 @@ fn at_most(most: usize, count: u64) -> usize
     }
 }
 
-/// How many octets the header of the first value has and how many the whole value, as far as they
-/// are there; none where no header can be read.
+/// Returns the number of octets of the first value's header and of the whole value, as far as
+/// they are present; zeros if no header can be read.
 pub fn sizes(octets: &[u8]) -> (usize, usize)
     ensures sizes { result ≡ sizes octets.now }
     ensures header { result.0 ≤ length octets.now }
@@ -35,7 +35,7 @@ pub fn sizes(octets: &[u8]) -> (usize, usize)
     (at_most(octets.len(), count), at_most(octets.len(), whole))
 }
 
-/// The octets after the first header: the first value's contents, and what follows.
+/// Returns the octets after the first header: the first value's contents and what follows.
 pub fn after_header(octets: &[u8]) -> &[u8]
     ensures { result.now ≡ after_header octets.now }
 {
@@ -43,7 +43,7 @@ pub fn after_header(octets: &[u8]) -> &[u8]
     &octets[count..]
 }
 
-/// The octets after the first value.
+/// Returns the octets after the first value.
 pub fn after_value(octets: &[u8]) -> &[u8]
     ensures { result.now ≡ after_value octets.now }
 {
@@ -51,7 +51,7 @@ pub fn after_value(octets: &[u8]) -> &[u8]
     &octets[count..]
 }
 
-/// The contents octets of the first value.
+/// Returns the contents octets of the first value.
 pub fn contents(octets: &[u8]) -> &[u8]
     ensures { result.now ≡ contents octets.now }
 {

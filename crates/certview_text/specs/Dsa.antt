@@ -1,4 +1,4 @@
--- The private key of DSA that OpenSSL writes. No standard has it.
+-- The DSA private key that OpenSSL writes. It is in no standard.
 use Rattle.der_modules.specs.Asn1.{Grammar, SEQUENCE, field, end}
 use Rattle.der_pkcs.specs.Algorithm.Grammar.{INTEGER_u8, NATURAL}
 

@@ -15,7 +15,7 @@ use Rattle.certview_text.specs.Dsa.{dsa_private_key}
 use Rattle.certview_text.specs.declared.kind.Kind.{Kind}
 use Rattle.certview_text.specs.declared.kind.Kind.TheVariants.{Certificate, RevocationList, PublicKey, PrivateKey, RsaPrivateKey, RsaPublicKey, EcPrivateKey, DsaPrivateKey, CertificationRequest, EncryptedPrivateKey, OcspRequest, OcspResponse, Cms, TimeStampQuery, TimeStampReply, Pkcs12, EcParameters, DsaParameters, DhParameters, X942Parameters}
 
--- what octets of a kind are read by
+-- the grammar that reads octets of this kind
 abbrev pub grammar_of : Kind → Parse
 grammar_of Certificate = parse_of certificate
 grammar_of RevocationList = parse_of certificate_list

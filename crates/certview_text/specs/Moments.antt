@@ -3,7 +3,7 @@ use Rattle.std.specs.Prelude.{ℕ, nat_le, ◌&&◌, Bool, true, Option, None, S
 use Rattle.der_pkix.specs.declared.certificate.time.Time.{Time}
 use Rattle.der_verify.specs.Time.{seconds_of}
 
--- a moment, in seconds from 1970-01-01T00:00:00Z, up to the next list, if that is told of
+-- a moment, in seconds since 1970-01-01T00:00:00Z, until the next list, if its time is given
 abbrev pub is_before_next : Option Time → ℕ → Bool
 is_before_next None seconds = true
 is_before_next (Some next) seconds = nat_le seconds (seconds_of next)

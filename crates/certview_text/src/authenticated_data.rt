@@ -14,7 +14,7 @@ use der_asn1_types::FromDer;
 use der_enveloped::authenticated::AuthenticatedData;
 use std::alloc::AllocError;
 
-/// Adds the fields of the AuthenticatedData at this place, a line each.
+/// Adds the fields of the AuthenticatedData in this byte range, one line each.
 pub fn push_authenticated_data(printer: &mut Printer<'_>, place: &Place) -> Result<(), AllocError> {
     let inner = printer.inner_at(place);
     match AuthenticatedData::from_der(printer.alloc, inner.octets) {

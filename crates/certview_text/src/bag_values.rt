@@ -1,4 +1,4 @@
-//! What the bags of a file of PKCS #12 have, as text (RFC 7292 sections 4.2.1 to 4.2.6).
+//! The values of the bags in a PKCS #12 file as text (RFC 7292 sections 4.2.1 to 4.2.6).
 
 use crate::cms_certificates::push_list_row;
 use crate::encrypted_key::push_encrypted_fields;
@@ -32,8 +32,8 @@ const CERT_BAG: &[u8] = &constants::CERT_BAG;
 /// A list of revoked certificates (RFC 7292 section 4.2.4).
 const CRL_BAG: &[u8] = &constants::CRL_BAG;
 
-/// Adds the lines of the value of a bag with this identifier: of others, and of bags within a bag, how many
-/// octets there are.
+/// Adds the lines of the value of a bag with this identifier. For nested bags, and for bags with
+/// another identifier, it adds the number of octets.
 pub fn push_bag_value(
     printer: &mut Printer<'_>,
     place: &Place,
@@ -51,7 +51,7 @@ pub fn push_bag_value(
     }
 }
 
-/// Adds the algorithm of a key, and how many octets it has.
+/// Adds the algorithm of a key and the number of its octets.
 fn push_key_bag(printer: &mut Printer<'_>, place: &Place) -> Result<(), AllocError> {
     let inner = printer.inner_at(place);
     match PrivateKeyInfo::from_der(printer.alloc, inner.octets) {
@@ -84,7 +84,8 @@ fn push_shrouded_key_bag(printer: &mut Printer<'_>, place: &Place) -> Result<(),
     }
 }
 
-/// Adds the line of a certificate, which an OCTET STRING holds; of another kind its identifier.
+/// Adds the line of a certificate in an OCTET STRING. For another kind of certificate it adds the
+/// identifier.
 fn push_certificate_bag(printer: &mut Printer<'_>, place: &Place) -> Result<(), AllocError> {
     let inner = printer.inner_at(place);
     match CertBag::from_der(printer.alloc, inner.octets) {
@@ -124,8 +125,8 @@ fn push_held_certificate(printer: &mut Printer<'_>, string: &Place) -> Result<()
     }
 }
 
-/// Adds the line of a list of revoked certificates, which an OCTET STRING holds; of another kind its
-/// identifier.
+/// Adds the line of a list of revoked certificates in an OCTET STRING. For another kind of list
+/// it adds the identifier.
 fn push_list_bag(printer: &mut Printer<'_>, place: &Place) -> Result<(), AllocError> {
     let inner = printer.inner_at(place);
     match CrlBag::from_der(printer.alloc, inner.octets) {

@@ -1,4 +1,4 @@
-//! The bags of a file of PKCS #12 as text (RFC 7292 section 4.2).
+//! The bags of a PKCS #12 file as text (RFC 7292 section 4.2).
 
 use crate::bag_values::push_bag_value;
 use certview_parts::attribute_rows::push_attribute_rows;
@@ -10,7 +10,7 @@ use der_asn1_types::FromDer;
 use der_pkcs::pkcs12::{SafeBag, SafeContents};
 use std::alloc::AllocError;
 
-/// Adds the lines of each of the bags that the OCTET STRING at this place holds.
+/// Adds the lines of each bag in the OCTET STRING in this byte range.
 pub fn push_bags(printer: &mut Printer<'_>, string: &Place) -> Result<(), AllocError> {
     let inner = printer.contents_at(string);
     match SafeContents::from_der(printer.alloc, inner.octets) {
@@ -31,7 +31,7 @@ fn push_each(
     for item in bags.items().iter(printer.alloc) {
         let place = places.next_item().unwrap_or(nowhere());
         let Ok(bag) = item else {
-            // It was read before.
+            // The item was decoded before, so only memory can run out.
             return Err(AllocError);
         };
         push_bag(printer, &place, &bag)?;
@@ -39,7 +39,7 @@ fn push_each(
     Ok(())
 }
 
-/// Adds what a bag is, what it has, and its attributes.
+/// Adds the type of a bag, its value and its attributes.
 fn push_bag(printer: &mut Printer<'_>, place: &Place, bag: &SafeBag<'_>) -> Result<(), AllocError> {
     let at = printer.places_of(bag, place);
     let identifier = bag.bag_id().as_bytes();

@@ -1,4 +1,4 @@
-//! The messages of an input, one or several, as text.
+//! The message or messages of an input, as text.
 
 ghost use Rattle.std.specs.Prelude.{◌≡◌, None, OnOk};
 ghost use Rattle.certview_text.specs.Faults.{first_fault};
@@ -22,10 +22,10 @@ use sha2::{Digest, Sha256};
 use std::alloc::{AllocError, Global};
 use std::fmt::Write;
 
-/// Adds the fields of a message, and its fingerprint where that is asked for.
+/// Adds the fields of a message, and its fingerprint if the caller asked for it.
 ///
 /// # Errors
-/// `Refused` for octets that are no message of the kind; `Memory`.
+/// `Refused` if the octets are no message of the kind; `Memory` if memory runs out.
 pub fn push_octets(alloc: Global, page: &mut Page, kind: Kind, octets: &[u8]) -> Result<(), Fault>
     ensures { OnOk result (first_fault (grammar_of kind) octets.now ≡ None) }
 {
@@ -38,7 +38,7 @@ pub fn push_octets(alloc: Global, page: &mut Page, kind: Kind, octets: &[u8]) ->
     }
 }
 
-/// Adds a line with the SHA-256 of a message's octets, if nothing in it is secret.
+/// Adds a line with the SHA-256 of a message's octets, unless the message contains a secret.
 fn push_fingerprint(printer: &mut Printer<'_>, kind: Kind) -> Result<(), AllocError> {
     if kind.is_secret() {
         return Ok(());
@@ -50,11 +50,12 @@ fn push_fingerprint(printer: &mut Printer<'_>, kind: Kind) -> Result<(), AllocEr
     printer.push('\n')
 }
 
-/// Adds the messages of PEM text, block by block; of several each after a line that names it. A block
-/// that is refused among others is a line with its fault.
+/// Adds the messages of PEM text, block by block. If there are several blocks, a line that names
+/// the block precedes each message. If one of several blocks is refused, its line shows the
+/// error.
 ///
 /// # Errors
-/// The fault of the first block, where no block is shown; `Memory`.
+/// The error of the first block if no block is shown; `Memory` if memory runs out.
 pub fn push_blocks(alloc: Global, page: &mut Page, text: &[u8]) -> Result<(), Fault> {
     let count = Blocks::count(text);
     if count < 2 {
@@ -67,7 +68,7 @@ pub fn push_blocks(alloc: Global, page: &mut Page, text: &[u8]) -> Result<(), Fa
     }
 }
 
-/// Adds each of so many blocks, and answers of how many a message is shown.
+/// Adds `count` blocks and returns the number of blocks whose message is shown.
 fn push_each(
     alloc: Global,
     page: &mut Page,
@@ -97,8 +98,8 @@ fn push_first(alloc: Global, page: &mut Page, text: &[u8]) -> Result<(), Fault> 
     }
 }
 
-/// Adds the message of one of several blocks, or the line of one that is refused; answers whether the
-/// message is shown.
+/// Adds the message of one of several blocks, or a line that says why the block is refused.
+/// Returns whether the message is shown.
 fn push_or_tell(alloc: Global, page: &mut Page, block: &Block<'_>) -> Result<bool, AllocError> {
     match push_block(alloc, page, block) {
         Ok(()) => Ok(true),
@@ -111,7 +112,7 @@ fn push_or_tell(alloc: Global, page: &mut Page, block: &Block<'_>) -> Result<boo
     }
 }
 
-/// Adds what can be read of the message of the first block.
+/// Adds the readable fields of the message in the first block.
 pub fn push_first_parts(alloc: Global, page: &mut Page, text: &[u8]) -> Result<(), AllocError> {
     let mut blocks = Blocks::of(text);
     match blocks.next_block() {
@@ -120,7 +121,7 @@ pub fn push_first_parts(alloc: Global, page: &mut Page, text: &[u8]) -> Result<(
     }
 }
 
-/// Adds what can be read of the message of a block that is refused.
+/// Adds the readable fields of the message in a refused block.
 fn push_block_parts(alloc: Global, page: &mut Page, block: &Block<'_>) -> Result<(), AllocError> {
     let Some(kind) = kind_with(block.label) else {
         return Ok(());
@@ -144,7 +145,7 @@ fn push_heading(
     writeln!(page.text, "{label}")
 }
 
-/// Adds that a block, or an input, is refused, and why.
+/// Adds a line that says that a block or an input is refused, and why.
 pub fn push_refused(page: &mut Page, fault: Fault) -> Result<(), AllocError> {
     page.is_partial = true;
     page.begin(ItemKind::Refused, "")?;
@@ -164,7 +165,8 @@ pub fn push_refused(page: &mut Page, fault: Fault) -> Result<(), AllocError> {
     page.text.push('\n')
 }
 
-/// Adds the number, the words and the place of a fault of octets, and the field in which it was met.
+/// Adds the number, the words and the position of an error in octets, and the field that contains
+/// it.
 fn push_refusal(page: &mut Page, error: &Error, path: Path) -> Result<(), AllocError> {
     let number = error.kind().number();
     write!(page.text, "refused ({number}): ")?;
@@ -189,7 +191,7 @@ fn push_refusal(page: &mut Page, error: &Error, path: Path) -> Result<(), AllocE
     page.say(Some(number), words, position, field)
 }
 
-/// Adds the message of a block, and the trust settings that may stand behind it.
+/// Adds the message of a block and the trust settings that may follow it.
 fn push_block(alloc: Global, page: &mut Page, block: &Block<'_>) -> Result<(), Fault> {
     let Some(kind) = kind_with(block.label) else {
         return Err(Fault::UnknownLabel(Label::of(block.label)));

@@ -29,12 +29,12 @@ use der_places::certificate::TbsCertificatePlaces;
 use std::alloc::{AllocError, Global};
 use std::fmt::Write;
 
-/// Adds the fields of the certificate that these octets are, a line each.
+/// Adds the fields of the certificate in these octets, one line each.
 ///
 /// # Errors
-/// `Refused` with the first fault of the octets, in the order of the fields; with
-/// `ErrorKind::TrailingData` (3) where octets are left over; with `ErrorKind::Overflow` (9) where there
-/// are more than 4294967295. `Memory`.
+/// `Refused` with the first error in the octets, in the order of the fields; with
+/// `ErrorKind::TrailingData` (3) if octets are left over; with `ErrorKind::Overflow` (9) if there
+/// are more than 4294967295 octets. `Memory` if memory runs out.
 pub fn push_certificate(alloc: Global, page: &mut Page, octets: &[u8]) -> Result<(), Fault>
     ensures { OnOk result (first_fault (parse_of certificate) octets.now ≡ None) }
 {
@@ -69,7 +69,7 @@ fn push_fields(printer: &mut Printer<'_>, certificate: &Certificate<'_>) -> Resu
     push_validity_at(printer, &within.validity, signed.validity())
 }
 
-/// Adds what is signed before its extensions.
+/// Adds the signed fields before the extensions.
 fn push_signed(
     printer: &mut Printer<'_>,
     at: &TbsCertificatePlaces,
@@ -110,7 +110,7 @@ fn push_rest(
     )
 }
 
-/// Adds a line with a number of an issuer or of a subject, where it is there.
+/// Adds a line with the unique identifier of an issuer or of a subject, if it is present.
 fn push_unique(
     printer: &mut Printer<'_>,
     place: &Place,
@@ -127,7 +127,7 @@ fn push_unique(
     }
 }
 
-/// Adds a line with the version: what is encoded is one less (RFC 5280 section 4.1.2.1).
+/// Adds a line with the version. The encoded number is one less (RFC 5280 section 4.1.2.1).
 pub fn push_version(
     printer: &mut Printer<'_>,
     place: &Place,

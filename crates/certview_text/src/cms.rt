@@ -1,4 +1,4 @@
-//! A message of CMS as text.
+//! A CMS message as text.
 
 ghost use Rattle.std.specs.Prelude.{◌≡◌, None, OnOk};
 ghost use Rattle.der_modules.specs.Asn1.{parse_of};
@@ -19,12 +19,13 @@ use der_cms::cms::ContentInfo;
 use der_cms::cms::laws::grammar_of_content_info;
 use std::alloc::{AllocError, Global};
 
-/// Adds the fields of the ContentInfo that these octets are, a line each; of its content, as its type says.
+/// Adds the fields of the ContentInfo in these octets, one line each, and the fields of its
+/// content by its type.
 ///
 /// # Errors
-/// `Refused` with the first fault of the octets, in the order of the fields; with
-/// `ErrorKind::TrailingData` (3) where octets are left over; with `ErrorKind::Overflow` (9) where there
-/// are more than 4294967295. `Memory`.
+/// `Refused` with the first error in the octets, in the order of the fields; with
+/// `ErrorKind::TrailingData` (3) if octets are left over; with `ErrorKind::Overflow` (9) if there
+/// are more than 4294967295 octets. `Memory` if memory runs out.
 pub fn push_cms(alloc: Global, page: &mut Page, octets: &[u8]) -> Result<(), Fault>
     ensures { OnOk result (first_fault (parse_of content_info) octets.now ≡ None) }
 {

@@ -1,4 +1,5 @@
-//! Certificates and lists of revoked ones that messages of CMS carry, as text (RFC 5652 section 10.2).
+//! The certificates and the lists of revoked certificates in CMS messages, as text (RFC 5652
+//! section 10.2).
 
 use certview_parts::characters::Behind;
 use certview_parts::field_name::FieldName;
@@ -13,7 +14,7 @@ use der_cms::cms::{CertificateChoices, RevocationInfoChoice};
 use der_pkix::crl::CertificateList;
 use std::alloc::AllocError;
 
-/// Adds a line for each certificate of a set, in the order in which they stand.
+/// Adds a line for each certificate of a set, in the order of the octets.
 pub fn push_certificate_choices(printer: &mut Printer<'_>, set: &Place) -> Result<(), AllocError> {
     let field = FieldName::Certificate;
     let mut items = printer.items(set);
@@ -66,7 +67,7 @@ fn push_choice(
     }
 }
 
-/// Adds a line for each list of revoked certificates of a set, in the order in which they stand.
+/// Adds a line for each list of revoked certificates in a set, in the order of the octets.
 pub fn push_revocations(printer: &mut Printer<'_>, set: &Place) -> Result<(), AllocError> {
     let field = FieldName::ListOfRevokedCertificates;
     let mut items = printer.items(set);

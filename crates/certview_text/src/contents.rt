@@ -1,4 +1,4 @@
-//! The contents of messages of CMS, by their types, as text.
+//! The contents of CMS messages as text, by their types.
 
 use crate::authenticated_data::push_authenticated_data;
 use crate::digested_data::push_digested_data;
@@ -32,8 +32,8 @@ const ID_ENCRYPTED_DATA: &[u8] = &cms::ID_ENCRYPTED_DATA;
 /// Authenticated data (RFC 5652 section 9.1).
 const ID_CT_AUTH_DATA: &[u8] = &authenticated::ID_CT_AUTH_DATA;
 
-/// Adds the lines of a content of the type with this identifier; of data and of another type the number of
-/// its octets.
+/// Adds the lines of a content of the type with this identifier. For data, and for an unknown
+/// type, it adds the number of octets.
 pub fn push_content(
     printer: &mut Printer<'_>,
     place: &Place,

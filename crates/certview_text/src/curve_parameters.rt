@@ -1,4 +1,4 @@
-//! Parameters of an elliptic curve as text.
+//! The parameters of an elliptic curve as text.
 
 ghost use Rattle.std.specs.Prelude.{◌≡◌, None, OnOk};
 ghost use Rattle.der_modules.specs.Asn1.{parse_of};
@@ -22,13 +22,13 @@ use der_pkix::key::laws::grammar_of_ec_parameters;
 use der_pkix::key::{Curve, EcParameters, FieldId, SpecifiedEcDomain};
 use std::alloc::{AllocError, Global};
 
-/// Adds the fields of the ECParameters that these octets are, a line each: a name, `implicit` where the curve
-/// is known from elsewhere, or the fields of its domain.
+/// Adds the fields of the ECParameters in these octets, one line each: a name, `implicit` if the
+/// curve is known from elsewhere, or the fields of its domain.
 ///
 /// # Errors
-/// `Refused` with the first fault of the octets, in the order of the fields; with
-/// `ErrorKind::TrailingData` (3) where octets are left over; with `ErrorKind::Overflow` (9) where there
-/// are more than 4294967295. `Memory`.
+/// `Refused` with the first error in the octets, in the order of the fields; with
+/// `ErrorKind::TrailingData` (3) if octets are left over; with `ErrorKind::Overflow` (9) if there
+/// are more than 4294967295 octets. `Memory` if memory runs out.
 pub fn push_curve_parameters(alloc: Global, page: &mut Page, octets: &[u8]) -> Result<(), Fault>
     ensures { OnOk result (first_fault (parse_of ec_parameters) octets.now ≡ None) }
 {
@@ -84,7 +84,7 @@ fn push_domain(
     }
 }
 
-/// Adds the kind of a field and its parameters: of one of a prime, that.
+/// Adds the kind of a field and its parameters. For a prime field the parameters are the prime.
 fn push_field(
     printer: &mut Printer<'_>,
     place: &Place,

@@ -11,7 +11,7 @@ use der_asn1_types::FromDer;
 use der_cms::cms::DigestedData;
 use std::alloc::AllocError;
 
-/// Adds the fields of the DigestedData at this place, a line each.
+/// Adds the fields of the DigestedData in this byte range, one line each.
 pub fn push_digested_data(printer: &mut Printer<'_>, place: &Place) -> Result<(), AllocError> {
     let inner = printer.inner_at(place);
     match DigestedData::from_der(printer.alloc, inner.octets) {

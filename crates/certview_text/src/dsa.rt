@@ -1,4 +1,4 @@
-//! A private key of DSA as text.
+//! A DSA private key as text.
 
 ghost use Rattle.std.specs.Prelude.{◌≡◌, None, OnOk};
 ghost use Rattle.der_modules.specs.Asn1.{parse_of};
@@ -18,25 +18,25 @@ use der_asn1_types::asn1::UintRef;
 use der_asn1_types::{FieldSequence, Fields6, Form, FromDer};
 use std::alloc::{AllocError, Global};
 
-/// The fields of the key, as OpenSSL calls them.
+/// The names of the key's fields in OpenSSL.
 pub const DSA_FIELDS: [&str; 6] = ["version", "p", "q", "g", "pub_key", "priv_key"];
 
-/// A private key of DSA: a version, the parameters p, q and g, the public key and the private one.
+/// A DSA private key: a version, the parameters p, q and g, the public key and the private key.
 type DsaPrivateKey<'a> = FieldSequence<
     Fields6<u8, UintRef<'a>, UintRef<'a>, UintRef<'a>, UintRef<'a>, UintRef<'a>>,
 >;
 
-/// What is read as a private key of DSA is what the page of the grammar says.
+/// Proves that the type reads what the grammar of a DSA private key says.
 fn grammar_of_dsa_private_key<'a>()
     ensures { ⟦<DsaPrivateKey<'a> as Form>⟧.parse ≡ parse_of dsa_private_key }
 {}
 
-/// Adds the fields of the private key of DSA that these octets are, a line each.
+/// Adds the fields of the DSA private key in these octets, one line each.
 ///
 /// # Errors
-/// `Refused` with the first fault of the octets, in the order of the fields; with
-/// `ErrorKind::TrailingData` (3) where octets are left over; with `ErrorKind::Overflow` (9) where there
-/// are more than 4294967295. `Memory`.
+/// `Refused` with the first error in the octets, in the order of the fields; with
+/// `ErrorKind::TrailingData` (3) if octets are left over; with `ErrorKind::Overflow` (9) if there
+/// are more than 4294967295 octets. `Memory` if memory runs out.
 pub fn push_dsa_private_key(alloc: Global, page: &mut Page, octets: &[u8]) -> Result<(), Fault>
     ensures { OnOk result (first_fault (parse_of dsa_private_key) octets.now ≡ None) }
 {

@@ -11,7 +11,7 @@ use der_asn1_types::FromDer;
 use der_cms::cms::{EncryptedContentInfo, EncryptedData};
 use std::alloc::AllocError;
 
-/// Adds the fields of the EncryptedData at this place, a line each.
+/// Adds the fields of the EncryptedData in this byte range, one line each.
 pub fn push_encrypted_data(printer: &mut Printer<'_>, place: &Place) -> Result<(), AllocError> {
     let inner = printer.inner_at(place);
     match EncryptedData::from_der(printer.alloc, inner.octets) {
@@ -39,7 +39,8 @@ fn push_fields(
     push_attribute_rows(printer, &at.unprotected_attrs, field)
 }
 
-/// Adds the type of what is encrypted, how it is, and how many octets there are, if they are there.
+/// Adds the type of the encrypted content, its encryption algorithm and, if it is present, the
+/// number of its octets.
 pub fn push_encrypted_content(
     printer: &mut Printer<'_>,
     place: &Place,

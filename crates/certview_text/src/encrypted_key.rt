@@ -19,12 +19,12 @@ use der_pkcs::encryption::EncryptedPrivateKeyInfo;
 use der_pkcs::encryption::laws::grammar_of_encrypted_private_key_info;
 use std::alloc::{AllocError, Global};
 
-/// Adds the fields of the EncryptedPrivateKeyInfo that these octets are, a line each.
+/// Adds the fields of the EncryptedPrivateKeyInfo in these octets, one line each.
 ///
 /// # Errors
-/// `Refused` with the first fault of the octets, in the order of the fields; with
-/// `ErrorKind::TrailingData` (3) where octets are left over; with `ErrorKind::Overflow` (9) where there
-/// are more than 4294967295. `Memory`.
+/// `Refused` with the first error in the octets, in the order of the fields; with
+/// `ErrorKind::TrailingData` (3) if octets are left over; with `ErrorKind::Overflow` (9) if there
+/// are more than 4294967295 octets. `Memory` if memory runs out.
 pub fn push_encrypted_key(alloc: Global, page: &mut Page, octets: &[u8]) -> Result<(), Fault>
     ensures { OnOk result (first_fault (parse_of encrypted_private_key_info) octets.now ≡ None) }
 {
@@ -44,7 +44,7 @@ fn push_fields(
     push_encrypted_fields(printer, &whole, key)
 }
 
-/// Adds the fields of an encrypted key: how it is encrypted, and how many octets there are.
+/// Adds the fields of an encrypted key: its encryption algorithm and the number of its octets.
 pub fn push_encrypted_fields(
     printer: &mut Printer<'_>,
     place: &Place,

@@ -1,4 +1,4 @@
-//! Data for recipients as text (RFC 5652 section 6).
+//! Enveloped data as text (RFC 5652 section 6).
 
 use crate::cms_certificates::{push_certificate_choices, push_revocations};
 use crate::encrypted_data::push_encrypted_content;
@@ -13,7 +13,7 @@ use der_asn1_types::FromDer;
 use der_enveloped::enveloped::{EnvelopedData, OriginatorInfo};
 use std::alloc::AllocError;
 
-/// Adds the fields of the EnvelopedData at this place, a line each.
+/// Adds the fields of the EnvelopedData in this byte range, one line each.
 pub fn push_enveloped_data(printer: &mut Printer<'_>, place: &Place) -> Result<(), AllocError> {
     let inner = printer.inner_at(place);
     match EnvelopedData::from_der(printer.alloc, inner.octets) {
@@ -44,7 +44,7 @@ fn push_fields(
     push_attribute_rows(printer, &at.unprotected_attrs, field)
 }
 
-/// Adds a line for each certificate and list that the sender gives, where they are there.
+/// Adds a line for each certificate and each list that the sender includes, if there are any.
 pub fn push_originator(
     printer: &mut Printer<'_>,
     place: &Place,

@@ -1,4 +1,4 @@
-//! Why nothing is printed.
+//! The reasons why nothing is printed.
 
 ghost use Rattle.std.specs.Prelude.{◌≡◌};
 ghost use Rattle.certview_text.specs.declared.fault.Fault.TheVariants.{Memory};
@@ -13,38 +13,39 @@ use der_asn1_types::{Error, ErrorKind};
 use std::alloc::AllocError;
 use std::fmt;
 
-/// What stands before the words of what is refused.
+/// The text before the words of a refusal.
 const REFUSED: &str = "refused: ";
 
-/// Why a message is not printed, or not to its end.
+/// The reason why a message is not printed, or not printed to its end.
 #[derive(Clone, Copy, Debug, PartialEq, Eq)]
 pub enum Fault {
-    /// The octets are no message of their kind: their first fault, and the field in which it was met.
+    /// The octets are no message of their kind: the first error in them, and the field that
+    /// contains it.
     Refused(Error, Path),
-    /// There are no octets.
+    /// The input is empty.
     Empty,
     /// The octets are no PEM text, and do not begin as a message in DER does.
     NoMessage,
-    /// A block of PEM text has a label that is not known.
+    /// A block of PEM text has an unknown label.
     UnknownLabel(Label),
     /// A block of PEM text is encrypted (RFC 1421 section 4.6.1.1).
     Encrypted,
     /// A block of PEM text is not ended by a line with its label.
     NoEnd,
-    /// What stands in a block of PEM text is no Base64.
+    /// The body of a block of PEM text is no Base64.
     NoBase64,
-    /// The name of the file is no UTF-8, so that it cannot be opened.
+    /// The name of the file is no UTF-8, so the file cannot be opened.
     Name,
     /// A read failed.
     Input,
     /// A write failed.
     Output,
-    /// Memory was refused.
+    /// An allocation failed.
     Memory,
 }
 
 impl Fault {
-    /// The exit status: 1 for octets that are refused, 2 where the machine failed.
+    /// Returns the exit status: 1 for refused octets, 2 for a failure of the machine.
     pub fn status(self) -> u8 {
         match self {
             Fault::Name | Fault::Input | Fault::Output | Fault::Memory => 2,
@@ -52,7 +53,7 @@ impl Fault {
         }
     }
 
-    /// What stands before the words of a fault that has no number.
+    /// Returns the text before the words of a fault without a number.
     pub fn prefix(self) -> &'static str {
         match self {
             Fault::Name | Fault::Input | Fault::Output | Fault::Memory => "",
@@ -61,7 +62,7 @@ impl Fault {
     }
 }
 
-/// The fault of octets that are refused, or of memory that was.
+/// Returns the fault for an error in octets: `Memory` if memory ran out, otherwise `Refused`.
 pub fn refusal(kind: Kind, octets: &[u8], error: Error) -> Fault {
     match error.kind {
         ErrorKind::Memory => Fault::Memory,
@@ -77,7 +78,7 @@ impl From<AllocError> for Fault {
     }
 }
 
-/// Writes the words of a fault, which may be that of a time before 1970.
+/// Writes the words of an error. A time before 1970 has words of its own.
 fn write_words<W: fmt::Write>(
     f: &mut fmt::Formatter<W>,
     error: &Error,
@@ -91,7 +92,7 @@ fn write_words<W: fmt::Write>(
     f.write_str(words_of_ber(&error.kind))
 }
 
-/// Writes how many octets had been read at a fault, if it says so.
+/// Writes the position of an error, if it has one.
 fn write_position<W: fmt::Write>(f: &mut fmt::Formatter<W>, error: &Error) -> fmt::Result {
     match error.position {
         Some(position) => write!(f, ", at position {position}"),

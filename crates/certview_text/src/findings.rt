@@ -1,4 +1,5 @@
-//! What a certificate or a list of revoked certificates breaks of RFC 5280 beyond its grammar, as text.
+//! The rules of RFC 5280 beyond its grammar that a certificate or a list of revoked certificates
+//! breaks, as text.
 
 use certview_parts::field_name::FieldName;
 use certview_parts::place::{Place, nowhere};
@@ -18,8 +19,8 @@ use der_verify::{CertificateRule, ListRule, check_certificate, check_list};
 use std::alloc::AllocError;
 use std::fmt::Write;
 
-/// A field that breaks a rule: its name; the contents octets of its identifier, if it is an extension; and
-/// what is wrong with it.
+/// A field that breaks a rule: its name, the contents octets of its identifier if it is an
+/// extension, and a description of the error.
 #[derive(Clone, Copy, Debug, PartialEq, Eq)]
 struct Finding {
     field: &'static str,
@@ -27,7 +28,7 @@ struct Finding {
     words: &'static str,
 }
 
-/// Adds a field for each rule that a certificate breaks, where that is asked for.
+/// Adds a field for each rule that a certificate breaks, if the caller asked for it.
 pub fn push_certificate_findings(
     printer: &mut Printer<'_>,
     certificate: &Certificate<'_>,
@@ -55,7 +56,7 @@ pub fn push_certificate_findings(
     Ok(())
 }
 
-/// Adds a field for each rule that a list breaks, where that is asked for.
+/// Adds a field for each rule that a list breaks, if the caller asked for it.
 pub fn push_list_findings(
     printer: &mut Printer<'_>,
     list: &CertificateList<'_>,
@@ -93,8 +94,8 @@ fn push_finding(
     )
 }
 
-/// Where the field of a certificate stands that has this name: the algorithm outside of what is signed, or
-/// a field within.
+/// Returns the byte range of the certificate's field with this name: the algorithm outside of the
+/// signed part, or a field within.
 fn place_in_certificate(
     at: &CertificatePlaces,
     within: &TbsCertificatePlaces,
@@ -111,7 +112,7 @@ fn place_in_certificate(
     }
 }
 
-/// Where the field of a list stands that has this name.
+/// Returns the byte range of the list's field with this name.
 fn place_in_list(at: &CertificateListPlaces, within: &TbsCertListPlaces, field: &str) -> Place {
     match field {
         "signatureAlgorithm" => at.signature_algorithm,
@@ -124,8 +125,8 @@ fn place_in_list(at: &CertificateListPlaces, within: &TbsCertListPlaces, field: 
     }
 }
 
-/// Where that stands which breaks a rule: an extension in the list of them, which stands after its tag, or
-/// a field.
+/// Returns the byte range of what breaks a rule: a field, or an extension in the list of
+/// extensions that follows its tag.
 fn place_of(
     printer: &Printer<'_>,
     field: Place,
@@ -140,7 +141,8 @@ fn place_of(
     }
 }
 
-/// Where the first extension with this identifier stands; where there is none, the list.
+/// Returns the byte range of the first extension with this identifier, or of the list if there is
+/// none.
 fn place_of_extension(
     printer: &Printer<'_>,
     list: &Place,
@@ -158,7 +160,7 @@ fn place_of_extension(
     *list
 }
 
-/// A field that breaks a rule.
+/// Returns the finding for a field that breaks a rule.
 fn of_field(field: &'static str, words: &'static str) -> Finding {
     Finding {
         field,
@@ -183,7 +185,7 @@ fn is_not_critical(field: &'static str, extension: &'static [u8]) -> Finding {
     }
 }
 
-/// What a certificate has that breaks a rule.
+/// Returns the finding for a rule that a certificate breaks.
 fn certificate_finding(rule: CertificateRule) -> Finding {
     match rule {
         CertificateRule::AlgorithmsAgree => {
@@ -244,7 +246,7 @@ fn certificate_criticality(rule: CertificateRule) -> Finding {
     }
 }
 
-/// What a list has that breaks a rule.
+/// Returns the finding for a rule that a list breaks.
 fn list_finding(rule: ListRule) -> Finding {
     match rule {
         ListRule::AlgorithmsAgree => {

@@ -1,4 +1,4 @@
-//! Parameters of DSA and of Diffie-Hellman as text.
+//! The parameters of DSA and of Diffie-Hellman as text.
 
 ghost use Rattle.std.specs.Prelude.{◌≡◌, None, OnOk};
 ghost use Rattle.der_modules.specs.Asn1.{parse_of};
@@ -21,12 +21,12 @@ use der_pkcs::algorithm::laws::{
 use der_pkcs::algorithm::{DhParameter, DomainParameters, DssParms, ValidationParms};
 use std::alloc::{AllocError, Global};
 
-/// Adds the fields of the Dss-Parms that these octets are, a line each.
+/// Adds the fields of the Dss-Parms in these octets, one line each.
 ///
 /// # Errors
-/// `Refused` with the first fault of the octets, in the order of the fields; with
-/// `ErrorKind::TrailingData` (3) where octets are left over; with `ErrorKind::Overflow` (9) where there
-/// are more than 4294967295. `Memory`.
+/// `Refused` with the first error in the octets, in the order of the fields; with
+/// `ErrorKind::TrailingData` (3) if octets are left over; with `ErrorKind::Overflow` (9) if there
+/// are more than 4294967295 octets. `Memory` if memory runs out.
 pub fn push_dsa_parameters(alloc: Global, page: &mut Page, octets: &[u8]) -> Result<(), Fault>
     ensures { OnOk result (first_fault (parse_of dss_parms) octets.now ≡ None) }
 {
@@ -46,7 +46,7 @@ fn dsa_fields(printer: &mut Printer<'_>, group: &DssParms<'_>) -> Result<(), All
     push_number_row(printer, &at.g, FieldName::G, group.g().as_bytes())
 }
 
-/// Adds the fields of the DHParameter that these octets are, a line each.
+/// Adds the fields of the DHParameter in these octets, one line each.
 ///
 /// # Errors
 /// As `push_dsa_parameters`.
@@ -80,7 +80,7 @@ fn dh_fields(printer: &mut Printer<'_>, group: &DhParameter<'_>) -> Result<(), A
     }
 }
 
-/// Adds the fields of the DomainParameters that these octets are, a line each.
+/// Adds the fields of the DomainParameters in these octets, one line each.
 ///
 /// # Errors
 /// As `push_dsa_parameters`.

@@ -1,4 +1,4 @@
-//! Recipients with whom a key is agreed on, as text (RFC 5652 section 6.2.2).
+//! Recipients that use key agreement, as text (RFC 5652 section 6.2.2).
 
 use crate::keys::push_version;
 use crate::recipients::{push_encrypted_key, push_key_encryption};
@@ -15,8 +15,8 @@ use der_enveloped::enveloped::{
 };
 use std::alloc::AllocError;
 
-/// Adds the lines of recipients with whom a key is agreed on: those of the sender's key, and of each key
-/// that is encrypted.
+/// Adds the lines of a recipient that uses key agreement: the lines of the sender's key and those
+/// of each encrypted key.
 pub fn push_agreement(
     printer: &mut Printer<'_>,
     place: &Place,
@@ -45,7 +45,7 @@ pub fn push_agreement(
     )
 }
 
-/// Adds how the sender's key is named, or the key itself.
+/// Adds the name of the sender's key, or the key itself.
 fn push_originator_key(
     printer: &mut Printer<'_>,
     place: &Place,
@@ -76,7 +76,7 @@ fn push_encrypted_keys(
     for item in keys.items().iter(printer.alloc) {
         let place = places.next_item().unwrap_or(nowhere());
         let Ok(key) = item else {
-            // It was read before.
+            // The item was decoded before, so only memory can run out.
             return Err(AllocError);
         };
         push_agreed_key(printer, &place, &key)?;
@@ -84,7 +84,7 @@ fn push_encrypted_keys(
     Ok(())
 }
 
-/// Adds for whom a key is encrypted, and how many octets it has.
+/// Adds the recipient of an encrypted key and the number of the key's octets.
 fn push_agreed_key(
     printer: &mut Printer<'_>,
     place: &Place,

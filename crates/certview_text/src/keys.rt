@@ -1,4 +1,4 @@
-//! Keys as text. Of what is secret only the length is shown.
+//! Keys as text. Only the length of a secret is shown.
 
 ghost use Rattle.std.specs.Prelude.{◌≡◌, None, OnOk};
 ghost use Rattle.der_modules.specs.Asn1.{parse_of};
@@ -29,12 +29,12 @@ use der_pkix::key::{EcParameters, EcPrivateKey, PrivateKeyInfo, RsaPublicKey};
 use std::alloc::{AllocError, Global};
 use std::fmt::Write;
 
-/// Adds the fields of the SubjectPublicKeyInfo that these octets are, a line each.
+/// Adds the fields of the SubjectPublicKeyInfo in these octets, one line each.
 ///
 /// # Errors
-/// `Refused` with the first fault of the octets, in the order of the fields; with
-/// `ErrorKind::TrailingData` (3) where octets are left over; with `ErrorKind::Overflow` (9) where there
-/// are more than 4294967295. `Memory`.
+/// `Refused` with the first error in the octets, in the order of the fields; with
+/// `ErrorKind::TrailingData` (3) if octets are left over; with `ErrorKind::Overflow` (9) if there
+/// are more than 4294967295 octets. `Memory` if memory runs out.
 pub fn push_public_key(alloc: Global, page: &mut Page, octets: &[u8]) -> Result<(), Fault>
     ensures { OnOk result (first_fault (parse_of subject_public_key_info) octets.now ≡ None) }
 {
@@ -55,7 +55,7 @@ fn public_key_fields(
     Ok(())
 }
 
-/// Adds the fields of the PrivateKeyInfo that these octets are, a line each.
+/// Adds the fields of the PrivateKeyInfo in these octets, one line each.
 ///
 /// # Errors
 /// As `push_public_key`.
@@ -90,7 +90,7 @@ fn private_key_fields(
     Ok(())
 }
 
-/// Adds the public key that stands beside a private one, where it is there.
+/// Adds the public key of a private key, if it is present.
 fn push_public_bits(
     printer: &mut Printer<'_>,
     place: &Place,
@@ -106,7 +106,7 @@ fn push_public_bits(
     }
 }
 
-/// Adds the fields of the RSAPublicKey that these octets are, a line each.
+/// Adds the fields of the RSAPublicKey in these octets, one line each.
 ///
 /// # Errors
 /// As `push_public_key`.
@@ -132,7 +132,7 @@ fn rsa_public_key_fields(
     Ok(())
 }
 
-/// Adds the fields of the ECPrivateKey that these octets are, a line each.
+/// Adds the fields of the ECPrivateKey in these octets, one line each.
 ///
 /// # Errors
 /// As `push_public_key`.
@@ -161,7 +161,7 @@ fn ec_private_key_fields(
     Ok(())
 }
 
-/// Adds a line with the curve, where its parameters are there.
+/// Adds a line with the curve, if its parameters are present.
 fn push_curve(
     printer: &mut Printer<'_>,
     place: &Place,
@@ -177,7 +177,7 @@ fn push_curve(
     }
 }
 
-/// Adds the name of a curve; of one that has none, how it is known.
+/// Adds the name of a curve. For a curve without a name it adds how the curve is known.
 fn push_curve_of(
     printer: &mut Printer<'_>,
     parameters: &EcParameters<'_>,
@@ -199,7 +199,7 @@ pub fn push_version(
     writeln!(printer.page.text, "{version}")
 }
 
-/// Adds how many octets of a field there are that is secret.
+/// Adds the number of octets of a secret field.
 pub fn push_secret(
     printer: &mut Printer<'_>,
     place: &Place,
@@ -210,7 +210,7 @@ pub fn push_secret(
     writeln!(printer.page.text, "{count} octets, not shown")
 }
 
-/// Adds how many bits the modulus of a key of RSA has, and its octets.
+/// Adds the number of bits of an RSA modulus, and its octets.
 pub fn push_modulus(
     printer: &mut Printer<'_>,
     place: &Place,
@@ -223,7 +223,7 @@ pub fn push_modulus(
     printer.push('\n')
 }
 
-/// Adds the public exponent of a key of RSA.
+/// Adds the public exponent of an RSA key.
 pub fn push_exponent(
     printer: &mut Printer<'_>,
     place: &Place,

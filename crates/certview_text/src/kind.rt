@@ -1,11 +1,11 @@
-//! What kind of message octets are.
+//! The kind of message in octets.
 
 ghost use Rattle.std.specs.Prelude.{◌≡◌};
 ghost use Rattle.certview_text.specs.Kinds.{has_tag, has_time_tag, signed_kind, without, has_requests, has_status, sequence_kind, structure_kind, primes_kind, numbers_kind, key_kind, kind_of_fields, kind_of, begins_message, fields_of, fields_within};
 
 use certview_parts::values::{after_header, after_value, contents};
 
-/// The messages that are shown.
+/// The kinds of messages that are shown.
 #[derive(Clone, Copy, Debug, PartialEq, Eq)]
 pub enum Kind {
     /// A Certificate (RFC 5280 section 4.1).
@@ -22,7 +22,8 @@ pub enum Kind {
     RsaPublicKey,
     /// An ECPrivateKey (RFC 5915 section 3).
     EcPrivateKey,
-    /// A private key of DSA, as OpenSSL writes it: version, p, q, g, the public key and the private one.
+    /// A DSA private key, as OpenSSL writes it: version, p, q, g, the public key and the private
+    /// key.
     DsaPrivateKey,
     /// A CertificationRequest (RFC 2986 section 4.2).
     CertificationRequest,
@@ -51,7 +52,7 @@ pub enum Kind {
 }
 
 impl Kind {
-    /// What a person calls the message.
+    /// Returns the name of the message for people.
     pub fn name(self) -> &'static str {
         match self {
             Kind::Certificate => "certificate",
@@ -77,7 +78,7 @@ impl Kind {
         }
     }
 
-    /// Whether a message of this kind has what is secret.
+    /// Returns whether a message of this kind contains a secret.
     pub fn is_secret(self) -> bool {
         matches!(
             self,
@@ -91,8 +92,9 @@ impl Kind {
     }
 }
 
-/// The kind of message that octets are, by the tags of their fields. Octets that are of none are
-/// taken for one, of which the grammar then refuses them; so are those of BER, whose kind the tags tell too.
+/// Returns the kind of message in octets, by the tags of its fields. Octets of no kind get one
+/// too, and its grammar then refuses them. The tags also give the kind of messages in BER, and
+/// the grammar refuses those as well.
 pub fn kind_of(octets: &[u8]) -> Kind
     ensures { result ≡ kind_of octets.now }
 {
@@ -102,14 +104,15 @@ pub fn kind_of(octets: &[u8]) -> Kind
     kind_of_fields(fields_of(octets))
 }
 
-/// Whether octets begin as a message: with a SEQUENCE, or as ECParameters that are a name or NULL.
+/// Returns whether octets begin as a message: with a SEQUENCE, or as ECParameters that are a name
+/// or NULL.
 pub fn begins_message(octets: &[u8]) -> bool
     ensures { result ≡ begins_message octets.now }
 {
     has_tag(octets, 0x30) || has_tag(octets, 0x06) || has_tag(octets, 0x05)
 }
 
-/// Of the fields of a SEQUENCE.
+/// Returns the kind of a message by the fields of its SEQUENCE.
 fn kind_of_fields(fields: &[u8]) -> Kind
     ensures { result ≡ kind_of_fields fields.now }
 {
@@ -124,7 +127,7 @@ fn kind_of_fields(fields: &[u8]) -> Kind
     }
 }
 
-/// Of what follows a first INTEGER.
+/// Returns the kind of a message by the fields after a first INTEGER.
 fn key_kind(others: &[u8]) -> Kind
     ensures { result ≡ key_kind others.now }
 {
@@ -142,7 +145,8 @@ fn key_kind(others: &[u8]) -> Kind
     }
 }
 
-/// Of what follows a first INTEGER, and is a SEQUENCE first.
+/// Returns the kind of a message by the fields after a first INTEGER, if a SEQUENCE is the next
+/// one.
 fn structure_kind(others: &[u8]) -> Kind
     ensures { result ≡ structure_kind others.now }
 {
@@ -160,7 +164,7 @@ fn structure_kind(others: &[u8]) -> Kind
     }
 }
 
-/// Of what follows three INTEGERs.
+/// Returns the kind of a message by the fields after three INTEGERs.
 fn numbers_kind(others: &[u8]) -> Kind
     ensures { result ≡ numbers_kind others.now }
 {
@@ -178,7 +182,7 @@ fn numbers_kind(others: &[u8]) -> Kind
     }
 }
 
-/// Of what follows five INTEGERs.
+/// Returns the kind of a message by the fields after five INTEGERs.
 fn primes_kind(others: &[u8]) -> Kind
     ensures { result ≡ primes_kind others.now }
 {
@@ -189,7 +193,7 @@ fn primes_kind(others: &[u8]) -> Kind
     }
 }
 
-/// Of the fields of a first SEQUENCE, and of what follows it.
+/// Returns the kind of a message by the fields of a first SEQUENCE and the fields after it.
 fn sequence_kind(fields: &[u8], others: &[u8]) -> Kind
     ensures { result ≡ sequence_kind fields.now others.now }
 {
@@ -206,7 +210,7 @@ fn sequence_kind(fields: &[u8], others: &[u8]) -> Kind
     }
 }
 
-/// Of the fields of what is signed.
+/// Returns the kind of a message by its signed fields.
 fn signed_kind(fields: &[u8]) -> Kind
     ensures { result ≡ signed_kind fields.now }
 {
@@ -221,14 +225,14 @@ fn signed_kind(fields: &[u8]) -> Kind
     }
 }
 
-/// Whether fields are those of a PKIStatusInfo.
+/// Returns whether the fields are those of a PKIStatusInfo.
 fn has_status(fields: &[u8]) -> bool
     ensures { result ≡ has_status fields.now }
 {
     has_tag(fields, 0x02) && !has_tag(after_value(after_value(fields)), 0x30)
 }
 
-/// Whether fields are those of a TBSRequest.
+/// Returns whether the fields are those of a TBSRequest.
 fn has_requests(fields: &[u8]) -> bool
     ensures { result ≡ has_requests fields.now }
 {
@@ -236,7 +240,7 @@ fn has_requests(fields: &[u8]) -> bool
     has_tag(requests, 0x30) && !has_tag(contents(requests), 0x06)
 }
 
-/// What stands after the first value, if that has this tag.
+/// Returns the octets after the first value if it has this tag, otherwise all of them.
 fn without(octets: &[u8], tag: u8) -> &[u8]
     ensures { result.now ≡ without tag octets.now }
 {
@@ -247,7 +251,7 @@ fn without(octets: &[u8], tag: u8) -> &[u8]
     }
 }
 
-/// What stands after the first header, of which the length may be indefinite (X.690 8.1.3.6).
+/// Returns the octets after the first header. Its length may be indefinite (X.690 8.1.3.6).
 fn fields_of(octets: &[u8]) -> &[u8]
     ensures { result.now ≡ fields_of octets.now }
 {
@@ -263,7 +267,8 @@ fn fields_of(octets: &[u8]) -> &[u8]
     }
 }
 
-/// The contents octets of the first value; of one with an indefinite length, all that stands after its header.
+/// Returns the contents octets of the first value. If its length is indefinite, returns all
+/// octets after the header.
 fn fields_within(octets: &[u8]) -> &[u8]
     ensures { result.now ≡ fields_within octets.now }
 {
@@ -279,14 +284,14 @@ fn fields_within(octets: &[u8]) -> &[u8]
     }
 }
 
-/// Whether the first value is a UTCTime or a GeneralizedTime.
+/// Returns whether the first value is a UTCTime or a GeneralizedTime.
 pub fn has_time_tag(octets: &[u8]) -> bool
     ensures { result ≡ has_time_tag octets.now }
 {
     has_tag(octets, 0x17) || has_tag(octets, 0x18)
 }
 
-/// Whether the first value has this identifier octet.
+/// Returns whether the first value has this identifier octet.
 pub fn has_tag(octets: &[u8], tag: u8) -> bool
     ensures { result ≡ has_tag tag octets.now }
 {

@@ -6,8 +6,9 @@ use std::fmt;
 /// The label of a certificate that OpenSSL's trust settings may follow.
 const TRUSTED: &str = "TRUSTED CERTIFICATE";
 
-/// The labels of the messages that are shown (RFC 7468 sections 5 to 11 and 13; PKCS12 is GnuTLS's, and
-/// those that the RFC has not are OpenSSL's). A label of more than 32 octets is none of them.
+/// The labels of the messages that are shown (RFC 7468 sections 5 to 11 and 13). PKCS12 is a
+/// label of GnuTLS; the other labels that the RFC lacks are those of OpenSSL. A label of more
+/// than 32 octets is not among them.
 const LABELS: [(&str, Kind); 25] = [
     ("CERTIFICATE", Kind::Certificate),
     ("X509 CERTIFICATE", Kind::Certificate),
@@ -36,7 +37,7 @@ const LABELS: [(&str, Kind); 25] = [
     ("X9.42 DH PARAMETERS", Kind::X942Parameters),
 ];
 
-/// The kind of message that a block with this label has.
+/// Returns the kind of message in a block with this label.
 pub fn kind_with(label: &[u8]) -> Option<Kind> {
     for (name, kind) in &LABELS {
         if name.as_bytes() == label {
@@ -46,12 +47,13 @@ pub fn kind_with(label: &[u8]) -> Option<Kind> {
     None
 }
 
-/// Whether a block with this label may have trust settings behind its message.
+/// Returns whether trust settings may follow the message of a block with this label.
 pub fn may_have_settings(label: &[u8]) -> bool {
     label == TRUSTED.as_bytes()
 }
 
-/// A label as it is shown: its first 32 octets, with a `?` for each that is no character of ASCII.
+/// A label as it is shown: its first 32 octets, with a `?` for each octet that is no printable
+/// ASCII character.
 #[derive(Clone, Copy, Debug, PartialEq, Eq)]
 pub struct Label {
     octets: [u8; 32],
@@ -59,7 +61,7 @@ pub struct Label {
 }
 
 impl Label {
-    /// A label of these octets.
+    /// Returns the label of these octets.
     pub fn of(octets: &[u8]) -> Label {
         let mut shown = [b' '; 32];
         let count = octets.len().min(32);

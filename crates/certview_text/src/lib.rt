@@ -1,5 +1,6 @@
-//! Messages as text for people: certificates, lists of revoked certificates, keys, requests, OCSP, CMS,
-//! time stamps, files of PKCS #12 and parameters, a field a line, with where each stands in the octets.
+//! Messages as text for people: certificates, lists of revoked certificates, keys, requests,
+//! OCSP, CMS, time stamps, PKCS #12 files and parameters. Each line has one field and its byte
+//! range.
 //!
 //! `ED25519_PUBLIC` is a key as hex digits:
 //!

@@ -1,4 +1,5 @@
-//! Whether a certificate is valid, or a list of revoked certificates current, at a moment, as text.
+//! Whether a certificate is valid, or a list of revoked certificates is current, at a moment, as
+//! text.
 
 ghost use Rattle.std.specs.Prelude.{◌≡◌, ◌↔◌, IsTrue};
 ghost use Rattle.der_verify.specs.Time.{is_valid_at, seconds_of};
@@ -14,7 +15,7 @@ use der_pkix::certificate::{Time, Validity};
 use der_verify::{holds_at, seconds};
 use std::alloc::AllocError;
 
-/// Where a moment stands.
+/// The position of a moment in a period.
 #[derive(Clone, Copy, Debug, PartialEq, Eq)]
 enum Standing {
     /// Before the first second.
@@ -25,7 +26,7 @@ enum Standing {
     After,
 }
 
-/// Adds a field that says whether a certificate is valid at the moment that is asked for.
+/// Adds a field that says whether a certificate is valid at the moment in question.
 pub fn push_validity_at(
     printer: &mut Printer<'_>,
     place: &Place,
@@ -42,7 +43,7 @@ pub fn push_validity_at(
     push_at(printer, place, &moment, words, words == "valid")
 }
 
-/// Adds a field that says whether a list is current at the moment that is asked for.
+/// Adds a field that says whether a list is current at the moment in question.
 pub fn push_currency_at(
     printer: &mut Printer<'_>,
     place: &Place,
@@ -60,7 +61,7 @@ pub fn push_currency_at(
     push_at(printer, place, &moment, words, words == "current")
 }
 
-/// The seconds from 1970-01-01T00:00:00Z.
+/// Returns the seconds since 1970-01-01T00:00:00Z.
 fn seconds_at(moment: &DateTime) -> u64 {
     moment.unix_duration().as_secs()
 }
@@ -82,7 +83,7 @@ fn push_at(
     printer.push('\n')
 }
 
-/// Where a moment, in seconds from 1970-01-01T00:00:00Z, stands to a validity.
+/// Compares a moment, in seconds since 1970-01-01T00:00:00Z, with a validity.
 fn certificate_standing(validity: Validity, moment: u64) -> Standing
     ensures { (result ≡ Within) ↔ IsTrue (is_valid_at validity moment) }
 {
@@ -95,7 +96,8 @@ fn certificate_standing(validity: Validity, moment: u64) -> Standing
     }
 }
 
-/// Where a moment stands to the times of a list: where no next one is told of, it stays current.
+/// Compares a moment with the times of a list. A list without the time of the next one stays
+/// current.
 fn list_standing(first: Time, last: Option<Time>, moment: u64) -> Standing
     ensures { (result ≡ Within) ↔ IsTrue (is_current_at first last moment) }
 {

@@ -1,4 +1,4 @@
-//! The certificate of which an OCSP message tells, as text (RFC 6960 section 4.1.1).
+//! The certificate that an OCSP message is about, as text (RFC 6960 section 4.1.1).
 
 use certview_parts::algorithms::push_algorithm;
 use certview_parts::field_name::FieldName;

@@ -23,12 +23,12 @@ use der_ocsp::ocsp::laws::grammar_of_ocsp_request;
 use der_ocsp::ocsp::{OcspRequest, Request, Requests, Signature, TbsRequest};
 use std::alloc::{AllocError, Global};
 
-/// Adds the fields of the OCSPRequest that these octets are, a line each.
+/// Adds the fields of the OCSPRequest in these octets, one line each.
 ///
 /// # Errors
-/// `Refused` with the first fault of the octets, in the order of the fields; with
-/// `ErrorKind::TrailingData` (3) where octets are left over; with `ErrorKind::Overflow` (9) where there
-/// are more than 4294967295. `Memory`.
+/// `Refused` with the first error in the octets, in the order of the fields; with
+/// `ErrorKind::TrailingData` (3) if octets are left over; with `ErrorKind::Overflow` (9) if there
+/// are more than 4294967295 octets. `Memory` if memory runs out.
 pub fn push_ocsp_request(alloc: Global, page: &mut Page, octets: &[u8]) -> Result<(), Fault>
     ensures { OnOk result (first_fault (parse_of ocsp_request) octets.now ≡ None) }
 {
@@ -86,7 +86,7 @@ fn push_requestor(
     }
 }
 
-/// Adds the lines of each certificate that is asked for.
+/// Adds the lines of each certificate that the request asks about.
 fn push_requests(
     printer: &mut Printer<'_>,
     list: &Place,
@@ -96,7 +96,7 @@ fn push_requests(
     for item in requests.items().iter(printer.alloc) {
         let place = places.next_item().unwrap_or(nowhere());
         let Ok(request) = item else {
-            // It was read before.
+            // The item was decoded before, so only memory can run out.
             return Err(AllocError);
         };
         push_one_request(printer, &place, &request)?;

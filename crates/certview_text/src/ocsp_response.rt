@@ -28,12 +28,12 @@ use der_ocsp::ocsp::{
 };
 use std::alloc::{AllocError, Global};
 
-/// Adds the fields of the OCSPResponse that these octets are, a line each.
+/// Adds the fields of the OCSPResponse in these octets, one line each.
 ///
 /// # Errors
-/// `Refused` with the first fault of the octets, in the order of the fields; with
-/// `ErrorKind::TrailingData` (3) where octets are left over; with `ErrorKind::Overflow` (9) where there
-/// are more than 4294967295. `Memory`.
+/// `Refused` with the first error in the octets, in the order of the fields; with
+/// `ErrorKind::TrailingData` (3) if octets are left over; with `ErrorKind::Overflow` (9) if there
+/// are more than 4294967295 octets. `Memory` if memory runs out.
 pub fn push_ocsp_response(alloc: Global, page: &mut Page, octets: &[u8]) -> Result<(), Fault>
     ensures { OnOk result (first_fault (parse_of ocsp_response) octets.now ≡ None) }
 {
@@ -71,7 +71,7 @@ fn name_of(status: OcspResponseStatus) -> &'static str {
     }
 }
 
-/// Adds the type of a response; the fields of a basic one, and of another its octets.
+/// Adds the type of a response, and the fields of a basic response or the octets of another one.
 fn push_response(
     printer: &mut Printer<'_>,
     place: &Place,
@@ -147,7 +147,7 @@ fn push_signed(
     )
 }
 
-/// Adds who answers: a name, or the hash of a key.
+/// Adds the responder: a name, or the hash of a key.
 fn push_responder(
     printer: &mut Printer<'_>,
     place: &Place,

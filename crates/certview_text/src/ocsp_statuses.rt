@@ -22,7 +22,7 @@ pub fn push_single_responses(
     for item in responses.items().iter(printer.alloc) {
         let place = places.next_item().unwrap_or(nowhere());
         let Ok(response) = item else {
-            // It was read before.
+            // The item was decoded before, so only memory can run out.
             return Err(AllocError);
         };
         push_single_response(printer, &place, &response)?;
@@ -66,7 +66,7 @@ fn push_status(page: &mut Page, status: &CertStatus) -> Result<(), AllocError> {
     }
 }
 
-/// Adds since when a certificate is revoked, and why.
+/// Adds the time and the reason of a revocation.
 fn push_revoked(page: &mut Page, revoked: &RevokedInfo) -> Result<(), AllocError> {
     page.text.push_str("revoked, ")?;
     push_date_time(page, &revoked.revocation_time().to_date_time())?;

@@ -1,4 +1,4 @@
-//! The field in which a fault was met.
+//! The field that contains an error.
 
 use crate::kind::Kind;
 use crate::whole::{shape_of, whole_of};
@@ -6,22 +6,22 @@ use certview_parts::early::is_early;
 use der_asn1_types::{Error, ErrorKind};
 use std::fmt;
 
-/// What stands before the name of the field.
+/// The text before the name of the field.
 pub const IN_FIELD: &str = ", in ";
 
-/// A field of a message: its place among the fields of the message, the place among the fields of that
-/// of one within it, and so on; after them the greatest number. There are none for a fault of the
-/// message as a whole.
+/// A field of a message: its index among the fields of the message, then the index of the field
+/// within that field, and so on. The rest of the array has the greatest number. An error of the
+/// message as a whole has no indices.
 #[derive(Clone, Copy, Debug, PartialEq, Eq)]
 pub struct Path {
     kind: Kind,
     steps: [usize; 6],
-    /// Whether a time before 1970 stands there, which is the fault.
+    /// Whether the field is a time before 1970, which is the error.
     pub is_early: bool,
 }
 
 impl Path {
-    /// The message as a whole.
+    /// Returns the path of the message as a whole.
     pub fn whole(kind: Kind) -> Path {
         Path {
             kind,
@@ -31,8 +31,9 @@ impl Path {
     }
 }
 
-/// The innermost field that has the octet that was looked at last when the fault was met: the one
-/// before the fault's place, or the tag at it where a CHOICE has no alternative with that tag.
+/// Returns the path of the innermost field that contains the last octet examined before the
+/// error. That octet precedes the error's position; if no alternative of a CHOICE has the tag, it
+/// is the tag at the position.
 pub fn path_of(octets: &[u8], kind: Kind, error: &Error) -> Path {
     let mut path = match octet_of(error) {
         Some(octet) => path_to(octets, kind, octet),
@@ -42,7 +43,7 @@ pub fn path_of(octets: &[u8], kind: Kind, error: &Error) -> Path {
     path
 }
 
-/// How many octets are before the one that was looked at last.
+/// Returns the offset of the last octet examined.
 fn octet_of(error: &Error) -> Option<usize> {
     let place = error.position?.value() as usize;
     match error.kind {
@@ -51,7 +52,7 @@ fn octet_of(error: &Error) -> Option<usize> {
     }
 }
 
-/// The innermost field that has an octet.
+/// Returns the path of the innermost field that contains an octet.
 pub fn path_to(octets: &[u8], kind: Kind, octet: usize) -> Path {
     let mut path = Path::whole(kind);
     let mut site = whole_of(octets, kind);
@@ -68,7 +69,8 @@ pub fn path_to(octets: &[u8], kind: Kind, octet: usize) -> Path {
 }
 
 impl Path {
-    /// The names of the fields, from the outermost on, and after them no names.
+    /// Returns the names of the fields, from the outermost to the innermost, padded with empty
+    /// names.
     fn names(&self) -> [&'static str; 5] {
         let mut names = [""; 5];
         let mut count = 0;
@@ -87,7 +89,7 @@ impl Path {
     }
 }
 
-/// What stands before a name, if there is one.
+/// Returns the text before a name, or nothing for an empty name.
 fn before(name: &str, words: &'static str) -> &'static str {
     if name.is_empty() { "" } else { words }
 }

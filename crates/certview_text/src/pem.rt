@@ -10,10 +10,10 @@ use base64::engine::general_purpose::STANDARD;
 use memchr::memmem;
 use std::alloc::{AllocError, Global};
 
-/// What the line begins with that begins a block.
+/// The start of the first line of a block.
 const BEGIN: &[u8] = b"-----BEGIN ";
 
-/// What ends both lines of a block, and begins the second.
+/// The end of both lines of a block, and the start of the second.
 const DASHES: &[u8] = b"-----";
 
 /// A block of PEM text.
@@ -21,20 +21,20 @@ const DASHES: &[u8] = b"-----";
 pub struct Block<'a> {
     /// The label in its first line.
     pub label: &'a [u8],
-    /// What stands between its two lines.
+    /// The text between its two lines.
     pub body: &'a [u8],
     /// Whether a line with the same label ends it.
     pub is_closed: bool,
 }
 
-/// Goes over the blocks of a text. What stands before, between and after them is passed over.
+/// An iterator over the blocks of a text. It skips the text before, between and after them.
 #[derive(Drop)]
 pub struct Blocks<'a> {
     rest: &'a [u8],
 }
 
-/// Whether an input is PEM text: it holds what begins a block, and does not begin with a SEQUENCE, as
-/// each message does.
+/// Returns whether an input is PEM text: it contains the start of a block, and does not begin
+/// with a SEQUENCE.
 pub fn is_text(input: &[u8]) -> bool
     ensures { result ≡ true → IsText input.now }
 {
@@ -48,12 +48,12 @@ pub fn is_text(input: &[u8]) -> bool
 }
 
 impl<'a> Blocks<'a> {
-    /// The blocks of a text.
+    /// Returns an iterator over the blocks of a text.
     pub fn of(text: &'a [u8]) -> Blocks<'a> {
         Blocks { rest: text }
     }
 
-    /// How many blocks a text has.
+    /// Counts the blocks of a text.
     pub fn count(text: &[u8]) -> usize {
         let mut blocks = Blocks::of(text);
         let mut count: usize = 0;
@@ -66,7 +66,7 @@ impl<'a> Blocks<'a> {
         count
     }
 
-    /// The next block.
+    /// Returns the next block.
     pub fn next_block(&mut self) -> Option<Block<'a>> {
         for _ in 0..self.rest.len() {
             let (_, line) = split_once(self.rest, BEGIN)?;
@@ -79,7 +79,7 @@ impl<'a> Blocks<'a> {
         None
     }
 
-    /// The block with this label, after whose first line these octets stand.
+    /// Returns the block with this label, where `after` is the text after its first line.
     fn block(&mut self, label: &'a [u8], after: &'a [u8]) -> Block<'a> {
         let (body, tail) = match split_once(after, DASHES) {
             Some((body, tail)) => (body, after_end(tail, label)),
@@ -97,7 +97,7 @@ impl<'a> Blocks<'a> {
     }
 }
 
-/// What stands before the first of these marks, and what stands after it.
+/// Returns the text before the first of these marks, and the text after it.
 fn split_once<'a>(text: &'a [u8], mark: &[u8]) -> Option<(&'a [u8], &'a [u8])>
     ensures { IfSome result (λ parts. length parts.0.now ≤ length text.now) }
 {
@@ -105,18 +105,18 @@ fn split_once<'a>(text: &'a [u8], mark: &[u8]) -> Option<(&'a [u8], &'a [u8])>
     Some((&text[..place], &text[place + mark.len()..]))
 }
 
-/// What stands after the rest of a line that ends a block with this label.
+/// Returns the text after the rest of a line that ends a block with this label.
 fn after_end<'a>(line: &'a [u8], label: &[u8]) -> Option<&'a [u8]> {
     line.strip_prefix(b"END ")?
         .strip_prefix(label)?
         .strip_prefix(DASHES)
 }
 
-/// The octets for which the digits of a block stand.
+/// Decodes the digits of a block.
 ///
 /// # Errors
-/// `NoEnd` for a block that is not ended; `Encrypted` where its headers say so; `NoBase64` where the
-/// digits are none (RFC 4648 section 4); `Memory`.
+/// `NoEnd` if no line ends the block; `Encrypted` if its headers say so; `NoBase64` if its digits
+/// are no Base64 (RFC 4648 section 4); `Memory` if memory runs out.
 pub fn octets_of(alloc: Global, block: &Block<'_>) -> Result<Vec<u8>, Fault> {
     if !block.is_closed {
         return Err(Fault::NoEnd);
@@ -133,8 +133,8 @@ pub fn octets_of(alloc: Global, block: &Block<'_>) -> Result<Vec<u8>, Fault> {
     }
 }
 
-/// The headers of a block (RFC 1421 section 4.4), if it has any, and what stands after them. They have a
-/// colon, which digits have not, and an empty line ends them.
+/// Returns the headers of a block (RFC 1421 section 4.4), if it has any, and the text after them.
+/// Headers contain a colon, which no digits do, and an empty line ends them.
 fn after_headers(body: &[u8]) -> (&[u8], &[u8]) {
     if !body.contains(&b':') {
         return (b"", body);

@@ -1,4 +1,4 @@
-//! A file of PKCS #12 as text: what stands in it, as far as it is not encrypted.
+//! A PKCS #12 file as text, as far as it is not encrypted.
 
 ghost use Rattle.std.specs.Prelude.{◌≡◌, None, OnOk};
 ghost use Rattle.der_modules.specs.Asn1.{parse_of};
@@ -25,12 +25,12 @@ use der_pkcs::pkcs12::laws::grammar_of_pfx;
 use der_pkcs::pkcs12::{AuthenticatedSafe, ContentInfo, MacData, Pfx};
 use std::alloc::{AllocError, Global};
 
-/// Adds the fields of the PFX that these octets are, a line each.
+/// Adds the fields of the PFX in these octets, one line each.
 ///
 /// # Errors
-/// `Refused` with the first fault of the octets, in the order of the fields; with
-/// `ErrorKind::TrailingData` (3) where octets are left over; with `ErrorKind::Overflow` (9) where there
-/// are more than 4294967295. `Memory`.
+/// `Refused` with the first error in the octets, in the order of the fields; with
+/// `ErrorKind::TrailingData` (3) if octets are left over; with `ErrorKind::Overflow` (9) if there
+/// are more than 4294967295 octets. `Memory` if memory runs out.
 pub fn push_pfx(alloc: Global, page: &mut Page, octets: &[u8]) -> Result<(), Fault>
     ensures { OnOk result (first_fault (parse_of pfx) octets.now ≡ None) }
 {
@@ -53,7 +53,7 @@ fn push_fields(printer: &mut Printer<'_>, file: &Pfx<'_>) -> Result<(), AllocErr
     }
 }
 
-/// Adds the type of the whole content: data has an AuthenticatedSafe in its octets.
+/// Adds the type of the whole content. The octets of data are an AuthenticatedSafe.
 fn push_safe(
     printer: &mut Printer<'_>,
     place: &Place,
@@ -93,7 +93,7 @@ fn push_contents(
     for item in contents.items().iter(printer.alloc) {
         let place = places.next_item().unwrap_or(nowhere());
         let Ok(content) = item else {
-            // It was read before.
+            // The item was decoded before, so only memory can run out.
             return Err(AllocError);
         };
         push_one_content(printer, &place, &content)?;
@@ -101,7 +101,7 @@ fn push_contents(
     Ok(())
 }
 
-/// Adds the type of one content; data has bags in its octets.
+/// Adds the type of one content. The octets of data are bags.
 fn push_one_content(
     printer: &mut Printer<'_>,
     place: &Place,
@@ -126,7 +126,8 @@ fn push_one_content(
     }
 }
 
-/// Adds how the whole is authenticated; one iteration where their number is absent.
+/// Adds the algorithm that authenticates the file. The number of iterations is one if it is
+/// absent.
 fn push_mac(printer: &mut Printer<'_>, place: &Place, mac: &MacData<'_>) -> Result<(), AllocError> {
     let at = printer.places_of(mac, place);
     let info = mac.mac();

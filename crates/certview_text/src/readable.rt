@@ -1,5 +1,5 @@
-//! What can be read of a certificate or of a list of revoked certificates that is refused: each field on
-//! its own, where its header says that it stands.
+//! The readable fields of a refused certificate or of a refused list of revoked certificates.
+//! Each field is read on its own, at the byte range that its header gives.
 
 use crate::certificate::push_version;
 use crate::kind::{Kind, has_tag, has_time_tag};
@@ -25,11 +25,11 @@ use der_pkix::crl::RevokedCertificate;
 use der_pkix::name::{AttributeTypeAndValue, Name};
 use std::alloc::{AllocError, Global};
 
-/// Adds the fields of a message that is refused, of which one that cannot be read is malformed. Nothing is
-/// added of octets that do not look like a certificate or a list.
+/// Adds the fields of a refused message, and marks a field that cannot be read as malformed. Adds
+/// nothing for octets that do not look like a certificate or a list.
 ///
 /// # Errors
-/// Where memory is refused.
+/// `AllocError` if memory runs out.
 pub fn push_parts(
     alloc: Global,
     page: &mut Page,
@@ -45,12 +45,12 @@ pub fn push_parts(
     }
 }
 
-/// The octets of a field.
+/// Returns the octets of a field.
 fn octets_of<'a>(octets: &'a [u8], extent: &Extent) -> &'a [u8] {
     octets.get(extent.begin..extent.end).unwrap_or(&[])
 }
 
-/// The octets of a field, which are read on their own.
+/// Returns the octets of a field with their offset, to be read on their own.
 fn inner_of<'a>(octets: &'a [u8], extent: &Extent) -> Inner<'a> {
     Inner {
         octets: octets_of(octets, extent),
@@ -58,12 +58,12 @@ fn inner_of<'a>(octets: &'a [u8], extent: &Extent) -> Inner<'a> {
     }
 }
 
-/// The contents octets of a field, and what follows it.
+/// Returns the contents octets of a field and the octets after it.
 fn octets_within<'a>(octets: &'a [u8], extent: &Extent) -> &'a [u8] {
     octets.get(extent.contents..).unwrap_or(&[])
 }
 
-/// Adds the fields of a certificate, where the octets have a time in the place of its validity.
+/// Adds the fields of a certificate if its validity begins with a time.
 fn push_certificate_parts(printer: &mut Printer<'_>, whole: &Site) -> Result<(), AllocError> {
     let octets = printer.octets;
     let site = whole.field(octets, "tbsCertificate");
@@ -102,7 +102,7 @@ fn push_certificate_parts(printer: &mut Printer<'_>, whole: &Site) -> Result<(),
     push_signature_parts(printer, whole)
 }
 
-/// Adds the fields of a list of revoked certificates, where the octets have a time in the place of its own.
+/// Adds the fields of a list of revoked certificates if its `thisUpdate` is a time.
 fn push_list_parts(printer: &mut Printer<'_>, whole: &Site) -> Result<(), AllocError> {
     let octets = printer.octets;
     let site = whole.field(octets, "tbsCertList");
@@ -125,7 +125,7 @@ fn push_list_parts(printer: &mut Printer<'_>, whole: &Site) -> Result<(), AllocE
     push_signature_parts(printer, whole)
 }
 
-/// Adds the version, whose last octet is its number.
+/// Adds the version, whose number is its last octet.
 fn push_number_part(printer: &mut Printer<'_>, site: &Site) -> Result<(), AllocError> {
     let version = site.field(printer.octets, "version");
     match octets_of(printer.octets, &version.extent) {
@@ -176,7 +176,7 @@ fn push_time_part(
     printer.push('\n')
 }
 
-/// Adds a name: attribute by attribute, where it is none.
+/// Adds a name. If it is malformed, adds it attribute by attribute.
 fn push_name_part(
     printer: &mut Printer<'_>,
     site: &Site,
@@ -202,7 +202,7 @@ fn push_name_part(
     printer.push('\n')
 }
 
-/// Adds the attributes of a place of a name.
+/// Adds the attributes of one set of a name.
 fn push_attribute_parts(printer: &mut Printer<'_>, site: &Site) -> Result<(), AllocError> {
     let mut is_first = true;
     let mut sites = Sites::within(printer.octets, site);
@@ -228,7 +228,7 @@ fn push_attribute_parts(printer: &mut Printer<'_>, site: &Site) -> Result<(), Al
     Ok(())
 }
 
-/// Adds the type of an attribute, if an identifier stands there.
+/// Adds the type of an attribute if it is an identifier.
 fn push_type_part(printer: &mut Printer<'_>, site: &Site) -> Result<(), AllocError> {
     let extent = site.field(printer.octets, "type").extent;
     if !has_tag(octets_of(printer.octets, &extent), 0x06) {
@@ -253,7 +253,8 @@ fn push_key_part(printer: &mut Printer<'_>, site: &Site) -> Result<(), AllocErro
     }
 }
 
-/// Adds a number of an issuer or of a subject, where it is there: the octet of unused bits, and others.
+/// Adds the unique identifier of an issuer or of a subject, if it is present: the octet of unused
+/// bits, and the others.
 fn push_unique_part(
     printer: &mut Printer<'_>,
     site: &Site,
@@ -316,7 +317,7 @@ fn push_entry_part(printer: &mut Printer<'_>, site: &Site) -> Result<(), AllocEr
     }
 }
 
-/// Adds the algorithm outside of what is signed, and the signature.
+/// Adds the algorithm outside of the signed part, and the signature.
 fn push_signature_parts(printer: &mut Printer<'_>, whole: &Site) -> Result<(), AllocError> {
     let algorithm = whole.field(printer.octets, "signatureAlgorithm");
     if algorithm.extent.len() > 0 {

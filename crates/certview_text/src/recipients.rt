@@ -18,7 +18,7 @@ use der_enveloped::enveloped::{
 use der_pkix::AlgorithmIdentifier;
 use std::alloc::AllocError;
 
-/// Adds the lines of each recipient of a set, in the order in which they stand.
+/// Adds the lines of each recipient of a set, in the order of the octets.
 pub fn push_recipients(printer: &mut Printer<'_>, set: &Place) -> Result<(), AllocError> {
     let field = FieldName::Recipient;
     let mut items = printer.items(set);
@@ -52,7 +52,7 @@ fn push_recipient(
     }
 }
 
-/// Adds the lines of a recipient to whose public key a key is encrypted.
+/// Adds the lines of a recipient whose public key encrypts the key.
 fn push_transport(
     printer: &mut Printer<'_>,
     place: &Place,
@@ -115,7 +115,7 @@ fn push_password(
     push_encrypted_key(printer, &at.encrypted_key, encrypted)
 }
 
-/// Adds the line of the algorithm by which a key is encrypted.
+/// Adds the line of the algorithm that encrypts a key.
 pub fn push_key_encryption(
     printer: &mut Printer<'_>,
     place: &Place,
@@ -124,7 +124,7 @@ pub fn push_key_encryption(
     push_algorithm(printer, place, FieldName::KeyEncryption, algorithm)
 }
 
-/// Adds the line of a key that is encrypted.
+/// Adds the line of an encrypted key.
 pub fn push_encrypted_key(
     printer: &mut Printer<'_>,
     place: &Place,

@@ -22,12 +22,12 @@ use der_pkcs::request::laws::grammar_of_certification_request;
 use der_pkcs::request::{CertificationRequest, CertificationRequestInfo};
 use std::alloc::{AllocError, Global};
 
-/// Adds the fields of the CertificationRequest that these octets are, a line each.
+/// Adds the fields of the CertificationRequest in these octets, one line each.
 ///
 /// # Errors
-/// `Refused` with the first fault of the octets, in the order of the fields; with
-/// `ErrorKind::TrailingData` (3) where octets are left over; with `ErrorKind::Overflow` (9) where there
-/// are more than 4294967295. `Memory`.
+/// `Refused` with the first error in the octets, in the order of the fields; with
+/// `ErrorKind::TrailingData` (3) if octets are left over; with `ErrorKind::Overflow` (9) if there
+/// are more than 4294967295 octets. `Memory` if memory runs out.
 pub fn push_request(alloc: Global, page: &mut Page, octets: &[u8]) -> Result<(), Fault>
     ensures { OnOk result (first_fault (parse_of certification_request) octets.now ≡ None) }
 {
@@ -59,8 +59,8 @@ fn push_fields(
     )
 }
 
-/// Adds what is signed: the version, of which what is encoded is one less, the subject, the key and the
-/// attributes.
+/// Adds the signed part: the version, the subject, the key and the attributes. The encoded
+/// version is one less.
 fn push_signed(
     printer: &mut Printer<'_>,
     place: &Place,

@@ -30,7 +30,7 @@ use der_pkix::crl::{CertificateList, RevokedCertificate, TbsCertList};
 use der_places::crl::TbsCertListPlaces;
 use std::alloc::{AllocError, Global};
 
-/// Adds the fields of the list of revoked certificates that these octets are, a line each.
+/// Adds the fields of the list of revoked certificates in these octets, one line each.
 ///
 /// # Errors
 /// As `push_certificate`.
@@ -113,7 +113,7 @@ fn push_entries<'a>(
         let place = places.next_item().unwrap_or(nowhere());
         printer.begin(&place, FieldName::Revoked)?;
         let Ok(entry) = item else {
-            // It was read before.
+            // The item was decoded before, so only memory can run out.
             return Err(AllocError);
         };
         push_entry(printer, &place, &entry)?;
@@ -121,7 +121,7 @@ fn push_entries<'a>(
     Ok(())
 }
 
-/// Adds the serial number, since when it is revoked, and its extensions; and ends the line.
+/// Adds the serial number, the time of the revocation and the extensions, and ends the line.
 pub fn push_entry(
     printer: &mut Printer<'_>,
     place: &Place,
@@ -137,7 +137,8 @@ pub fn push_entry(
     printer.push('\n')
 }
 
-/// Adds the extensions of an entry, each after a comma, as those of a certificate are shown.
+/// Adds the extensions of an entry, each after a comma and in the form of a certificate's
+/// extensions.
 fn push_entry_extensions(
     printer: &mut Printer<'_>,
     list: &Place,
@@ -147,7 +148,7 @@ fn push_entry_extensions(
     for item in extensions.items().iter(printer.alloc) {
         let place = places.next_item().unwrap_or(nowhere());
         let Ok(extension) = item else {
-            // It was read before.
+            // The item was decoded before, so only memory can run out.
             return Err(AllocError);
         };
         push_entry_extension(printer, &place, &extension)?;

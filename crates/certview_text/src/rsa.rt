@@ -1,4 +1,4 @@
-//! A private key of RSA as text.
+//! An RSA private key as text.
 
 ghost use Rattle.std.specs.Prelude.{◌≡◌, None, OnOk};
 ghost use Rattle.der_modules.specs.Asn1.{parse_of};
@@ -19,12 +19,12 @@ use der_pkix::key::RsaPrivateKey;
 use der_pkix::key::laws::grammar_of_rsa_private_key;
 use std::alloc::{AllocError, Global};
 
-/// Adds the fields of the RSAPrivateKey that these octets are, a line each.
+/// Adds the fields of the RSAPrivateKey in these octets, one line each.
 ///
 /// # Errors
-/// `Refused` with the first fault of the octets, in the order of the fields; with
-/// `ErrorKind::TrailingData` (3) where octets are left over; with `ErrorKind::Overflow` (9) where there
-/// are more than 4294967295. `Memory`.
+/// `Refused` with the first error in the octets, in the order of the fields; with
+/// `ErrorKind::TrailingData` (3) if octets are left over; with `ErrorKind::Overflow` (9) if there
+/// are more than 4294967295 octets. `Memory` if memory runs out.
 pub fn push_rsa_private_key(alloc: Global, page: &mut Page, octets: &[u8]) -> Result<(), Fault>
     ensures { OnOk result (first_fault (parse_of rsa_private_key) octets.now ≡ None) }
 {
@@ -51,7 +51,7 @@ fn push_fields(printer: &mut Printer<'_>, key: &RsaPrivateKey<'_>) -> Result<(),
     push_other_primes(printer, &at.other_prime_infos, key)
 }
 
-/// Adds how many contents octets a number has that is secret.
+/// Adds the number of contents octets of a secret number.
 fn push_number(
     printer: &mut Printer<'_>,
     place: &Place,
@@ -61,7 +61,7 @@ fn push_number(
     push_secret(printer, place, field, count)
 }
 
-/// Adds how many primes there are besides the two, where there are more.
+/// Adds the number of primes besides the first two, if there are more.
 fn push_other_primes(
     printer: &mut Printer<'_>,
     place: &Place,
@@ -72,7 +72,7 @@ fn push_other_primes(
     };
     match primes.items().count(printer.alloc) {
         Ok(count) => push_count_row(printer, place, FieldName::OtherPrimes, count),
-        // They were read before.
+        // The items were decoded before, so only memory can run out.
         Err(_) => Err(AllocError),
     }
 }

@@ -1,36 +1,38 @@
-//! What a message or a field of one is made of: a part of the table that `tools/asn1` writes, or a private
-//! key of DSA.
+//! The components of a message or of one of its fields: a part of the table that `tools/asn1`
+//! writes, or a DSA private key.
 
 use crate::dsa::DSA_FIELDS;
 use crate::parts::Part;
 
-/// What stands in octets.
+/// The structure of octets.
 #[derive(Clone, Copy)]
 pub enum Shape {
     /// A part of the table.
     Part(Part),
-    /// A private key of DSA, of which each field is a number.
+    /// A DSA private key, whose fields are all numbers.
     DsaPrivateKey,
 }
 
 /// A component of a shape.
 #[derive(Clone, Copy)]
 pub struct Field {
-    /// Its name in the module; none of an item of a list, or of what stands after an explicit tag.
+    /// Its name in the module; empty for an item of a list and for the value after an explicit
+    /// tag.
     pub name: &'static str,
-    /// The identifier octet that tells it, where it may be absent or is one of several.
+    /// The identifier octet that it begins with, if it may be absent or is one of several
+    /// alternatives.
     pub octet: Option<u8>,
-    /// What it is made of.
+    /// Its own structure.
     pub shape: Shape,
 }
 
 impl Shape {
-    /// A value with no components that have names.
+    /// Returns the shape of a value without named components.
     pub fn value() -> Shape {
         Shape::Part(Part::Value)
     }
 
-    /// How many components it has.
+    /// Returns the number of its components.
     pub fn count(self) -> usize {
         match self {
             Shape::Part(part) => part.components().len(),
@@ -38,7 +40,7 @@ impl Shape {
         }
     }
 
-    /// The component at this place, if there is one.
+    /// Returns the component with this index, if there is one.
     pub fn field(self, step: usize) -> Option<Field> {
         match self {
             Shape::Part(part) => {
@@ -52,7 +54,7 @@ impl Shape {
         }
     }
 
-    /// Whether it is a list, of which each item is alike.
+    /// Returns whether it is a list, whose items are all alike.
     pub fn is_list(self) -> bool {
         match self {
             Shape::Part(part) => part.is_list(),

@@ -15,7 +15,7 @@ use der_pkix::AlgorithmIdentifier;
 use der_time_stamp::time_stamp::constants::ID_CT_TST_INFO;
 use std::alloc::AllocError;
 
-/// Adds the fields of the SignedData at this place, a line each.
+/// Adds the fields of the SignedData in this byte range, one line each.
 pub fn push_signed_data(printer: &mut Printer<'_>, place: &Place) -> Result<(), AllocError> {
     let inner = printer.inner_at(place);
     match SignedData::from_der(printer.alloc, inner.octets) {
@@ -39,7 +39,7 @@ fn push_fields(
     push_signers(printer, &at.signer_infos)
 }
 
-/// Adds a line for each digest algorithm of a set, in the order in which they stand.
+/// Adds a line for each digest algorithm of a set, in the order of the octets.
 fn push_digests(printer: &mut Printer<'_>, set: &Place) -> Result<(), AllocError> {
     let field = FieldName::DigestAlgorithm;
     let mut items = printer.items(set);
@@ -56,7 +56,8 @@ fn push_digests(printer: &mut Printer<'_>, set: &Place) -> Result<(), AllocError
     Ok(())
 }
 
-/// Adds the type of what is within, and how many octets it has, if it is there; the fields of a TSTInfo.
+/// Adds the type of the encapsulated content, the number of its octets if it is present, and the
+/// fields of a TSTInfo.
 pub fn push_encapsulated(
     printer: &mut Printer<'_>,
     place: &Place,

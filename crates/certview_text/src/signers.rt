@@ -14,7 +14,7 @@ use der_asn1_types::FromDer;
 use der_cms::cms::{IssuerAndSerialNumber, SignerIdentifier, SignerInfo};
 use std::alloc::AllocError;
 
-/// Adds the lines of each signer of a set, in the order in which they stand.
+/// Adds the lines of each signer of a set, in the order of the octets.
 pub fn push_signers(printer: &mut Printer<'_>, set: &Place) -> Result<(), AllocError> {
     let mut items = printer.items(set);
     for _ in 0..set.length {
@@ -63,7 +63,7 @@ fn push_signer(
     push_attribute_rows(printer, set, FieldName::UnsignedAttribute)
 }
 
-/// Adds how a certificate is named: by its serial number and its issuer, or by its key.
+/// Adds the identification of a certificate: its serial number and its issuer, or its key.
 pub fn push_signer_identifier(
     printer: &mut Printer<'_>,
     identifier: &SignerIdentifier<'_>,

@@ -1,34 +1,33 @@
-//! The fields of a message, where they stand in its octets, which may be refused: as far as their headers
-//! can be read.
+//! The fields of a message and their byte ranges, as far as the headers can be read. The message
+//! may be one that its grammar refuses.
 
 use crate::shape::Shape;
 use certview_parts::place::Place;
 use certview_parts::values::sizes;
 
-/// Where the encoding of a value stands: how many octets are before it, before its contents, and
-/// before what follows it.
+/// The extent of an encoding: the offsets of its start, its contents and its end.
 #[derive(Clone, Copy, Debug, PartialEq, Eq)]
 pub struct Extent {
-    /// How many octets are before it.
+    /// The offset of its first octet.
     pub begin: usize,
-    /// How many octets are before its contents.
+    /// The offset of its contents octets.
     pub contents: usize,
-    /// How many octets are before what follows it.
+    /// The offset of the octet after it.
     pub end: usize,
 }
 
 impl Extent {
-    /// How many octets the encoding has.
+    /// Returns the number of octets of the encoding.
     pub fn len(self) -> usize {
         self.end.saturating_sub(self.begin)
     }
 
-    /// Whether an octet, of which so many are before it, is one of the encoding's.
+    /// Returns whether the octet at this offset is part of the encoding.
     fn has(self, octet: usize) -> bool {
         self.begin <= octet && octet < self.end
     }
 
-    /// Its place, as far as 32 bits say it.
+    /// Returns its byte range, as far as 32 bits can express it.
     fn place(self) -> Place {
         Place {
             offset: u32::try_from(self.begin).unwrap_or(u32::MAX),
@@ -37,8 +36,8 @@ impl Extent {
     }
 }
 
-/// The extent of the value that begins after so many octets, and ends before so many: none where
-/// there is no octet between. Where no header can be read, all of them are its header.
+/// Returns the extent of the value that begins at `begin` and ends at `end` at the latest; none
+/// if there is no octet between. If no header can be read, all these octets are its header.
 fn extent_at(octets: &[u8], begin: usize, end: usize) -> Option<Extent> {
     let left = octets.get(begin..end)?;
     if left.is_empty() {
@@ -59,7 +58,8 @@ fn extent_at(octets: &[u8], begin: usize, end: usize) -> Option<Extent> {
     })
 }
 
-/// The extent of a message: all of the octets. Where no header can be read, all of them are its header.
+/// Returns the extent of a message: all of the octets. If no header can be read, all octets are
+/// its header.
 fn extent_of_all(octets: &[u8]) -> Extent {
     let end = octets.len();
     let contents = match sizes(octets).0 {
@@ -73,18 +73,18 @@ fn extent_of_all(octets: &[u8]) -> Extent {
     }
 }
 
-/// A part of a message, and where it stands.
+/// A part of a message, and its extent.
 #[derive(Clone, Copy)]
 pub struct Site {
-    /// Its place among the fields of the part that it is in.
+    /// Its index among the fields of the part that contains it.
     pub step: usize,
-    /// What it is.
+    /// Its structure.
     pub shape: Shape,
-    /// Where it stands.
+    /// Its extent.
     pub extent: Extent,
 }
 
-/// Goes over the fields of a part, as they stand in the octets.
+/// An iterator over the fields of a part, in the order of the octets.
 #[derive(Drop)]
 pub struct Sites<'a> {
     octets: &'a [u8],
@@ -95,7 +95,7 @@ pub struct Sites<'a> {
 }
 
 impl Site {
-    /// A message of this shape: all of the octets.
+    /// Returns a message of this shape: all of the octets.
     pub fn whole(octets: &[u8], shape: Shape) -> Site {
         Site {
             step: 0,
@@ -104,7 +104,7 @@ impl Site {
         }
     }
 
-    /// The first field with this name; where there is none, no octets at the end.
+    /// Returns the first field with this name; an empty site at the end if there is none.
     pub fn field(&self, octets: &[u8], name: &str) -> Site {
         let mut sites = Sites::within(octets, self);
         for _ in self.extent.contents..self.extent.end {
@@ -117,7 +117,7 @@ impl Site {
         self.nothing()
     }
 
-    /// The field that has the octet of which so many are before it.
+    /// Returns the field that contains the octet at this offset.
     pub fn field_with(&self, octets: &[u8], octet: usize) -> Option<Site> {
         let mut sites = Sites::within(octets, self);
         for _ in self.extent.contents..self.extent.end {
@@ -129,7 +129,7 @@ impl Site {
         None
     }
 
-    /// No octets at the end.
+    /// Returns an empty site at the end.
     fn nothing(&self) -> Site {
         let end = self.extent.end;
         Site {
@@ -143,14 +143,14 @@ impl Site {
         }
     }
 
-    /// Its place.
+    /// Returns its byte range.
     pub fn place(&self) -> Place {
         self.extent.place()
     }
 }
 
 impl<'a> Sites<'a> {
-    /// The fields of a part.
+    /// Returns an iterator over the fields of a part.
     pub fn within(octets: &'a [u8], site: &Site) -> Sites<'a> {
         Sites {
             octets,
@@ -161,7 +161,7 @@ impl<'a> Sites<'a> {
         }
     }
 
-    /// The next field, if there is one that has a name.
+    /// Returns the next field, if there is one with a name.
     pub fn next_site(&mut self) -> Option<Site> {
         let extent = extent_at(self.octets, self.begin, self.end)?;
         let tag = *self.octets.get(extent.begin)?;
@@ -175,8 +175,8 @@ impl<'a> Sites<'a> {
         })
     }
 
-    /// The next field that may begin with this octet: those that are absent are passed over. Where
-    /// there is none, the next CHOICE, which has no alternative with this octet.
+    /// Returns the next field that may begin with this octet, and skips absent ones. If there is
+    /// none, returns the next CHOICE, which has no alternative with this octet.
     fn step_with(&mut self, octet: u8) -> Option<usize> {
         let step = match step_beginning(self.shape, self.next, octet) {
             Some(step) => step,
@@ -189,7 +189,8 @@ impl<'a> Sites<'a> {
     }
 }
 
-/// The name of a shape's field at this place; none where there is no such field, or it is an item.
+/// Returns the name of the shape's field with this index; empty if there is no such field, or if
+/// it is an item.
 fn name_of(shape: Shape, step: usize) -> &'static str {
     match shape.field(step) {
         Some(field) => field.name,
@@ -197,7 +198,7 @@ fn name_of(shape: Shape, step: usize) -> &'static str {
     }
 }
 
-/// The first field from a place on that may begin with this octet.
+/// Returns the first field from an index on that may begin with this octet.
 fn step_beginning(shape: Shape, next: usize, octet: u8) -> Option<usize> {
     for step in next..shape.count() {
         if may_begin(shape, step, octet) {
@@ -207,8 +208,8 @@ fn step_beginning(shape: Shape, next: usize, octet: u8) -> Option<usize> {
     None
 }
 
-/// Whether the field at a place may begin with this octet: one that is never absent is told by its
-/// place alone.
+/// Returns whether the field with this index may begin with this octet. A field that is never
+/// absent may begin with any octet: its index alone identifies it.
 fn may_begin(shape: Shape, step: usize, octet: u8) -> bool {
     match shape.field(step) {
         Some(field) => match field.octet {
@@ -219,7 +220,8 @@ fn may_begin(shape: Shape, step: usize, octet: u8) -> bool {
     }
 }
 
-/// The first field from a place on that is one of several alternatives, which have one name.
+/// Returns the first field from an index on that is one of several alternatives. Alternatives
+/// share one name.
 fn step_of_choice(shape: Shape, next: usize) -> Option<usize> {
     for step in next..shape.count() {
         if step_after(shape, step) > step.saturating_add(1) {
@@ -229,7 +231,7 @@ fn step_of_choice(shape: Shape, next: usize) -> Option<usize> {
     None
 }
 
-/// The place after a field, and after the other alternatives where it is one of several.
+/// Returns the index after a field, and after its other alternatives if it is one of several.
 fn step_after(shape: Shape, step: usize) -> usize {
     let Some(field) = shape.field(step) else {
         return shape.count();

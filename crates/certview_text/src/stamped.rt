@@ -1,4 +1,4 @@
-//! What a time stamp says, as text (RFC 3161 section 2.4.2).
+//! The contents of a time stamp as text (RFC 3161 section 2.4.2).
 
 use crate::keys::push_version;
 use certview_parts::algorithms::push_algorithm;
@@ -19,7 +19,7 @@ use der_time_stamp::time_stamp::{Accuracy, MessageImprint, TstInfo};
 use std::alloc::AllocError;
 use std::fmt::Write;
 
-/// Adds the fields of the TSTInfo that the OCTET STRING at this place holds, a line each.
+/// Adds the fields of the TSTInfo in the OCTET STRING in this byte range, one line each.
 pub fn push_stamped(printer: &mut Printer<'_>, string: &Place) -> Result<(), AllocError> {
     let inner = printer.contents_at(string);
     let place = printer.contents_of(*string);
@@ -77,7 +77,7 @@ pub fn push_imprint(
     push_octets_row(printer, &at.hashed_message, FieldName::Digest, digest)
 }
 
-/// Adds the parts of an accuracy that are there, and ends the line.
+/// Adds the parts of an accuracy that are present, and ends the line.
 fn push_accuracy(page: &mut Page, accuracy: &Accuracy) -> Result<(), AllocError> {
     let seconds = accuracy.seconds().unwrap_or(0);
     let millis = accuracy.millis().unwrap_or(0);
@@ -85,7 +85,7 @@ fn push_accuracy(page: &mut Page, accuracy: &Accuracy) -> Result<(), AllocError>
     writeln!(page.text, "{seconds} s, {millis} ms, {micros} us")
 }
 
-/// Adds the line of a field that is `yes` or `no`.
+/// Adds the line of a field with the value `yes` or `no`.
 pub fn push_flag(
     printer: &mut Printer<'_>,
     place: &Place,
@@ -97,7 +97,7 @@ pub fn push_flag(
     printer.push_str(word)
 }
 
-/// Adds the line of a nonce, where it is there.
+/// Adds the line of a nonce, if it is present.
 pub fn push_nonce(
     printer: &mut Printer<'_>,
     place: &Place,
@@ -109,7 +109,7 @@ pub fn push_nonce(
     }
 }
 
-/// Adds a line for each extension, where there are some.
+/// Adds a line for each extension, if there are any.
 pub fn push_extensions(
     printer: &mut Printer<'_>,
     list: &Place,

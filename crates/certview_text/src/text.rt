@@ -27,7 +27,7 @@ use certview_parts::page::Page;
 use der_asn1_types::{Error, ErrorKind};
 use std::alloc::Global;
 
-/// Adds the fields of the message of this kind that these octets are, a line each. Nothing is added where
+/// Adds the fields of the message of this kind in these octets, one line each. Adds nothing if
 /// the octets are refused.
 ///
 /// # Errors
@@ -59,12 +59,12 @@ pub fn push_message(alloc: Global, page: &mut Page, kind: Kind, octets: &[u8]) -
     }
 }
 
-/// The fields of the message of this kind that these octets are, a line each.
+/// Returns the fields of the message of this kind in these octets, one line each.
 ///
 /// # Errors
-/// The first fault of the octets, in the order of the fields; `ErrorKind::TrailingData` (3) where
-/// octets are left over; `ErrorKind::Overflow` (9) where there are more than 4294967295;
-/// `ErrorKind::Memory` (1) where memory runs out.
+/// The first error in the octets, in the order of the fields; `ErrorKind::TrailingData` (3) if
+/// octets are left over; `ErrorKind::Overflow` (9) if there are more than 4294967295 octets;
+/// `ErrorKind::Memory` (1) if memory runs out.
 pub fn shown(alloc: Global, kind: Kind, octets: &[u8]) -> Result<String, Error>
     ensures { OnOk result (first_fault (grammar_of kind) octets.now ≡ None) }
 {

@@ -20,12 +20,12 @@ use der_time_stamp::time_stamp::TimeStampReq;
 use der_time_stamp::time_stamp::laws::grammar_of_time_stamp_req;
 use std::alloc::{AllocError, Global};
 
-/// Adds the fields of the TimeStampReq that these octets are, a line each.
+/// Adds the fields of the TimeStampReq in these octets, one line each.
 ///
 /// # Errors
-/// `Refused` with the first fault of the octets, in the order of the fields; with
-/// `ErrorKind::TrailingData` (3) where octets are left over; with `ErrorKind::Overflow` (9) where there
-/// are more than 4294967295. `Memory`.
+/// `Refused` with the first error in the octets, in the order of the fields; with
+/// `ErrorKind::TrailingData` (3) if octets are left over; with `ErrorKind::Overflow` (9) if there
+/// are more than 4294967295 octets. `Memory` if memory runs out.
 pub fn push_query(alloc: Global, page: &mut Page, octets: &[u8]) -> Result<(), Fault>
     ensures { OnOk result (first_fault (parse_of time_stamp_req) octets.now ≡ None) }
 {

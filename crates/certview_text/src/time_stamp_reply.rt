@@ -31,8 +31,8 @@ const STATUSES: [&str; 6] = [
     "revocationNotification",
 ];
 
-/// The names of the bits of a PKIFailureInfo (RFC 3161 section 2.4.2), from bit 0 on; the others are those
-/// of RFC 4210 section 5.2.3.
+/// The names of the bits of a PKIFailureInfo (RFC 3161 section 2.4.2), from bit 0 on. The bits
+/// that this RFC lacks have the names of RFC 4210 section 5.2.3.
 const FAILURES: [&str; 26] = [
     "badAlg",
     "badMessageCheck",
@@ -62,12 +62,12 @@ const FAILURES: [&str; 26] = [
     "systemFailure",
 ];
 
-/// Adds the fields of the TimeStampResp that these octets are, a line each.
+/// Adds the fields of the TimeStampResp in these octets, one line each.
 ///
 /// # Errors
-/// `Refused` with the first fault of the octets, in the order of the fields; with
-/// `ErrorKind::TrailingData` (3) where octets are left over; with `ErrorKind::Overflow` (9) where there
-/// are more than 4294967295. `Memory`.
+/// `Refused` with the first error in the octets, in the order of the fields; with
+/// `ErrorKind::TrailingData` (3) if octets are left over; with `ErrorKind::Overflow` (9) if there
+/// are more than 4294967295 octets. `Memory` if memory runs out.
 pub fn push_reply(alloc: Global, page: &mut Page, octets: &[u8]) -> Result<(), Fault>
     ensures { OnOk result (first_fault (parse_of time_stamp_resp) octets.now ≡ None) }
 {
@@ -89,7 +89,7 @@ fn push_fields(printer: &mut Printer<'_>, reply: &TimeStampResp<'_>) -> Result<(
     }
 }
 
-/// Adds the status, its texts, and what went wrong, where these are there.
+/// Adds the status, its texts and its failure bits, if they are present.
 fn push_status(
     printer: &mut Printer<'_>,
     place: &Place,
@@ -127,7 +127,7 @@ fn push_texts(
     for item in texts.items().iter(printer.alloc) {
         let place = places.next_item().unwrap_or(nowhere());
         let Ok(text) = item else {
-            // It was read before.
+            // The item was decoded before, so only memory can run out.
             return Err(AllocError);
         };
         push_text_row(printer, &place, FieldName::StatusText, text.as_str())?;
@@ -135,7 +135,8 @@ fn push_texts(
     Ok(())
 }
 
-/// Adds the names of the bits that are set, and ends the line; a bit that has none, by its number.
+/// Adds the names of the set bits, and ends the line. A bit without a name is shown by its
+/// number.
 fn push_failures(page: &mut Page, bits: NamedBitsRef<'_>) -> Result<(), AllocError> {
     let mut is_first = true;
     for index in 0..bits.as_bit_string().bit_len() {
@@ -157,7 +158,7 @@ fn push_failure(page: &mut Page, index: usize) -> Result<(), AllocError> {
     }
 }
 
-/// Adds the lines of a time stamp, a message of CMS.
+/// Adds the lines of a time stamp, which is a CMS message.
 fn push_token(
     printer: &mut Printer<'_>,
     place: &Place,

@@ -1,5 +1,6 @@
-//! What OpenSSL writes behind a certificate in a block with the label TRUSTED CERTIFICATE: for what it is
-//! trusted, for what it is not, what it is called, and an identifier of its key.
+//! The trust settings that OpenSSL writes after a certificate in a block with the label TRUSTED
+//! CERTIFICATE: the uses for which it is trusted, the uses for which it is not, its name and an
+//! identifier of its key.
 
 ghost use Rattle.std.specs.Prelude.{◌≤◌, length};
 
@@ -15,8 +16,8 @@ use der_asn1_types::FromDer;
 use der_asn1_types::asn1::AnyRef;
 use std::alloc::AllocError;
 
-/// How many octets of a block with this label are its message: all of them, or those of the certificate
-/// before the trust settings.
+/// Returns the number of octets that are the message of a block with this label: all of them, or
+/// those of the certificate before the trust settings.
 pub fn count_of_message(label: &[u8], octets: &[u8]) -> usize
     ensures { result ≤ length octets.now }
 {
@@ -28,8 +29,8 @@ pub fn count_of_message(label: &[u8], octets: &[u8]) -> usize
     }
 }
 
-/// Adds the trust settings that stand behind so many octets, where they are there: how many octets they
-/// have, and a line for each.
+/// Adds the trust settings from this offset on, if there are any: the number of their octets, and
+/// a line for each setting.
 pub fn push_trust_settings(printer: &mut Printer<'_>, begin: usize) -> Result<(), AllocError> {
     let length = printer.octets.len().saturating_sub(begin);
     if length == 0 {
@@ -52,7 +53,7 @@ pub fn push_trust_settings(printer: &mut Printer<'_>, begin: usize) -> Result<()
     }
 }
 
-/// Adds how many octets the settings have, and a line for each of so many.
+/// Adds the number of octets of the settings, and a line for each of the first `count` settings.
 fn push_settings(printer: &mut Printer<'_>, list: &Place, count: usize) -> Result<(), AllocError> {
     let octets = printer.octets_at(list);
     push_length_row(printer, list, FieldName::TrustSettings, octets)?;
@@ -66,7 +67,7 @@ fn push_settings(printer: &mut Printer<'_>, list: &Place, count: usize) -> Resul
     Ok(())
 }
 
-/// Adds a setting, which its tag tells: a list of uses, a name or an identifier.
+/// Adds a setting by its tag: a list of uses, a name or an identifier.
 fn push_setting(printer: &mut Printer<'_>, place: &Place) -> Result<(), AllocError> {
     match printer.octets_at(place) {
         [0x30, ..] => push_uses(printer, place, FieldName::TrustedUse),
@@ -77,7 +78,7 @@ fn push_setting(printer: &mut Printer<'_>, place: &Place) -> Result<(), AllocErr
     }
 }
 
-/// Adds a line for each use of a list.
+/// Adds a line for each use in a list.
 fn push_uses(printer: &mut Printer<'_>, list: &Place, field: FieldName) -> Result<(), AllocError> {
     let mut items = printer.items(list);
     for _ in 0..list.length {
@@ -89,7 +90,7 @@ fn push_uses(printer: &mut Printer<'_>, list: &Place, field: FieldName) -> Resul
     Ok(())
 }
 
-/// Adds a line with a value of a type that its tag tells.
+/// Adds a line with a value, whose tag gives its type.
 fn push_value_row(
     printer: &mut Printer<'_>,
     place: &Place,

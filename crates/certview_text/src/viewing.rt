@@ -1,4 +1,4 @@
-//! From what is read to what is written.
+//! The way from the input to the output.
 
 ghost use Rattle.std.specs.Prelude.{◌≡◌, ◌≢◌, OnOk, IfOk, IfErr, IfSome};
 ghost use Rattle.std.specs.Io.KnownBytes.{Keeps};
@@ -17,34 +17,34 @@ use certview_parts::page::{ItemKind, Page};
 use std::alloc::{AllocError, Global};
 use std::io::{self, Read, Write};
 
-/// How an input is shown.
+/// The options for showing an input.
 #[derive(Clone, Copy, Debug, PartialEq, Eq)]
 pub struct View<'a> {
-    /// What the input is called, before its messages.
+    /// The name of the input, which is written before its messages.
     pub name: Option<&'a str>,
-    /// In which form.
+    /// The form of the output.
     pub form: Form,
-    /// The fields that are shown; all, where none are named.
+    /// The fields that are shown; all if there is no list.
     pub fields: Option<&'a [FieldName]>,
-    /// What is asked of each message besides.
+    /// Further requests about each message.
     pub asked: Asked,
 }
 
-/// What became of an input of which a message was shown.
+/// The result for an input with a message that was shown.
 #[derive(Clone, Copy, Debug, PartialEq, Eq)]
 pub enum Outcome {
-    /// All of it is shown.
+    /// The whole input is shown.
     Whole,
-    /// A part could not be read, of which a line says so.
+    /// A part could not be read, and a line says so.
     Partial,
-    /// All of it is shown, and what was asked of it does not hold, of which a line says so.
+    /// The whole input is shown, but a check that was asked for fails, and a line says so.
     Found,
-    /// No one reads what is written. The status is that of what would have been shown.
+    /// No one reads the output. The status is that of the output that was not read.
     Closed(u8),
 }
 
 impl<'a> View<'a> {
-    /// All fields of messages with no name, for people.
+    /// Returns the options for all fields of messages without a name, for people.
     pub fn plain() -> View<'a> {
         View {
             name: None,
@@ -56,7 +56,8 @@ impl<'a> View<'a> {
 }
 
 impl Outcome {
-    /// The exit status: 1 for what is shown in part, and for what does not hold, whether or not it is read.
+    /// Returns the exit status: 1 if a part could not be read or a check failed, whether or not
+    /// the output is read.
     pub fn status(self) -> u8 {
         match self {
             Outcome::Partial | Outcome::Found => 1,
@@ -65,7 +66,7 @@ impl Outcome {
         }
     }
 
-    /// What became of an input that is on this page.
+    /// Returns the result for the input on this page.
     fn of(page: &Page) -> Outcome {
         if page.is_partial {
             Outcome::Partial
@@ -77,30 +78,30 @@ impl Outcome {
     }
 }
 
-/// Reads all of the input, and writes the fields of the messages that it carries, as `show` does.
+/// Reads the whole input and writes the fields of its messages, as `show` does.
 ///
 /// # Errors
-/// `Input` where a read fails; `Memory`; and as `show`.
+/// `Input` if a read fails; `Memory` if memory runs out; and the errors of `show`.
 pub fn run<R: Read, W: Write>(
     alloc: Global,
     view: &View<'_>,
     input: &mut R,
     output: &mut W,
 ) -> Result<Outcome, Fault>
-    // What was read is shown only where the grammar of its kind reads exactly these octets, or where it
-    // is PEM text.
+    // The input is shown only if the grammar of its kind reads exactly these octets, or if it is
+    // PEM text.
     ensures read { OnOk result (IfSome (R.remaining input.old) IsShown) }
-    // Unless a write fails, nothing was written where there is a fault.
+    // After an error other than `Output`, nothing has been written.
     ensures kept { IfErr result (λ fault. fault ≢ Fault.Output → Keeps (W.contents output.old) (W.contents output.new)) }
 {
     let octets = read_input(alloc, input)?;
     show(alloc, view, octets.as_slice(), output)
 }
 
-/// Reads all of an input.
+/// Reads a whole input.
 ///
 /// # Errors
-/// `Input` where a read fails; `Memory`.
+/// `Input` if a read fails; `Memory` if memory runs out.
 pub fn read_input<R: Read>(alloc: Global, input: &mut R) -> Result<Vec<u8>, Fault>
     ensures { IfOk result (λ octets. IfSome (R.remaining input.old) (λ all. octets.items ≡ all)) }
 {
@@ -111,11 +112,11 @@ pub fn read_input<R: Read>(alloc: Global, input: &mut R) -> Result<Vec<u8>, Faul
     }
 }
 
-/// Writes the fields of the messages that an input carries. All of them are found, and are made text, before
-/// the first octet is written.
+/// Writes the fields of the messages in an input. It finds all messages and formats them as text
+/// before it writes the first octet.
 ///
 /// # Errors
-/// The fault of the input; `Output` where a write fails; `Memory`.
+/// The error of the input; `Output` if a write fails; `Memory` if memory runs out.
 pub fn show<W: Write>(
     alloc: Global,
     view: &View<'_>,
@@ -129,11 +130,11 @@ pub fn show<W: Write>(
     write_page(alloc, view, &page, output)
 }
 
-/// Writes of an input that is refused why, and below that what can be read of it, a field on its own: for
-/// people nothing, where there is no such field; in JSON that it is refused.
+/// Writes why an input is refused and, below that, its readable fields, each read on its own.
+/// Without such a field it writes nothing for people, and only the refusal in JSON.
 ///
 /// # Errors
-/// `Output` where a write fails; `Memory`.
+/// `Output` if a write fails; `Memory` if memory runs out.
 pub fn show_refused<W: Write>(
     alloc: Global,
     view: &View<'_>,
@@ -151,7 +152,7 @@ pub fn show_refused<W: Write>(
     write_page(alloc, view, &page, output)
 }
 
-/// The items of an input.
+/// Returns the page with the items of an input.
 fn page_of(alloc: Global, view: &View<'_>, input: &[u8]) -> Result<Page, Fault>
     ensures { OnOk result (IsShown input.now) }
 {
@@ -160,7 +161,7 @@ fn page_of(alloc: Global, view: &View<'_>, input: &[u8]) -> Result<Page, Fault>
     Ok(page)
 }
 
-/// Writes what a page has.
+/// Writes the items of a page.
 fn write_page<W: Write>(
     alloc: Global,
     view: &View<'_>,
@@ -173,7 +174,7 @@ fn write_page<W: Write>(
     write_text(output, text.as_str(), Outcome::of(page))
 }
 
-/// The text of a page as a whole.
+/// Returns the text of a whole page.
 pub fn text_of(alloc: Global, writer: Writer<'_>, page: &Page) -> Result<String, AllocError> {
     let mut writer = writer;
     let mut text = String::new(alloc);
@@ -182,7 +183,7 @@ pub fn text_of(alloc: Global, writer: Writer<'_>, page: &Page) -> Result<String,
     Ok(text)
 }
 
-/// Writes a text. A pipe that is closed is no fault: no one reads on.
+/// Writes a text. A closed pipe is no error: no one reads on.
 fn write_text<W: Write>(output: &mut W, text: &str, outcome: Outcome) -> Result<Outcome, Fault>
     ensures { IfErr result (λ fault. fault ≡ Fault.Output) }
 {
@@ -203,7 +204,7 @@ fn read_fault(error: &io::Error) -> Fault {
     }
 }
 
-/// Adds what is written for an input.
+/// Adds the items of an input.
 fn push_input(alloc: Global, page: &mut Page, view: &View<'_>, input: &[u8]) -> Result<(), Fault>
     ensures { OnOk result (IsShown input.now) }
 {
@@ -221,7 +222,7 @@ fn push_input(alloc: Global, page: &mut Page, view: &View<'_>, input: &[u8]) -> 
     push_octets(alloc, page, kind, input)
 }
 
-/// Adds why an input is refused, and what can be read of it.
+/// Adds why an input is refused, and its readable fields.
 fn push_remains(
     alloc: Global,
     page: &mut Page,
@@ -237,7 +238,7 @@ fn push_remains(
     }
 }
 
-/// Adds what can be read of an input that is refused.
+/// Adds the readable fields of a refused input.
 fn push_parts_of(alloc: Global, page: &mut Page, input: &[u8]) -> Result<(), AllocError> {
     if is_text(input) {
         push_first_parts(alloc, page, input)
@@ -246,7 +247,7 @@ fn push_parts_of(alloc: Global, page: &mut Page, input: &[u8]) -> Result<(), All
     }
 }
 
-/// Begins an input with its name, if it is to have one: in JSON each has.
+/// Begins an input with its name. For people an input may have no name; in JSON each has one.
 fn push_input_name(page: &mut Page, view: &View<'_>) -> Result<(), AllocError> {
     match (view.name, view.form) {
         (None, Form::Text) => Ok(()),

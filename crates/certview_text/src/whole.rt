@@ -1,4 +1,4 @@
-//! A message as a whole: what it is made of, where it stands, and what it is called.
+//! A message as a whole: its structure, its byte range and its name.
 
 use crate::kind::Kind;
 use crate::parts::Part;
@@ -9,18 +9,18 @@ use certview_parts::place::Place;
 use certview_parts::printer::Printer;
 use std::alloc::AllocError;
 
-/// A message of a kind: all of the octets.
+/// Returns a message of a kind: all of the octets.
 pub fn whole_of(octets: &[u8], kind: Kind) -> Site {
     Site::whole(octets, shape_of(kind))
 }
 
-/// Begins a message: where it stands, and what a person calls it.
+/// Begins a message: its byte range, and its name for people.
 pub fn push_title(printer: &mut Printer<'_>, place: &Place, kind: Kind) -> Result<(), AllocError> {
     printer.page.begin(ItemKind::Message(*place), kind.name())?;
     printer.push('\n')
 }
 
-/// What a message of a kind is made of.
+/// Returns the structure of a message of a kind.
 pub fn shape_of(kind: Kind) -> Shape {
     match kind {
         Kind::DsaPrivateKey => Shape::DsaPrivateKey,
@@ -28,7 +28,8 @@ pub fn shape_of(kind: Kind) -> Shape {
     }
 }
 
-/// The part that a message of a kind is; of ECParameters, a CHOICE, and of a private key of DSA none.
+/// Returns the part of the table for a message of a kind: for ECParameters a CHOICE, for a DSA
+/// private key none.
 fn part_of(kind: Kind) -> Part {
     match kind {
         Kind::Certificate => Part::Certificate,

@@ -1,7 +1,8 @@
-//! Reads messages and writes them so often as it is asked to, so that the instructions of one round can be counted.
+//! Reads and writes messages a given number of times, so that the instructions of one round can
+//! be counted.
 //!
-//! Standard input has an octet that says what is done, one that says how often, and a SEQUENCE OF OCTET STRING with the
-//! messages. What is written is the sum of what each call answers.
+//! Standard input has an octet for the task, an octet with the number of rounds, and a SEQUENCE
+//! OF OCTET STRING with the messages. Standard output gets the sum of the results of the calls.
 #![tactic(auto)]
 
 use der_asn1_types::asn1::{AnyRef, OctetStringRef};
@@ -16,7 +17,7 @@ use std::alloc::Global;
 use std::io::Read;
 use std::process::ExitCode;
 
-/// Whether the octets are read as a value of the type: 1, or 0.
+/// Returns 1 if the octets are read as a value of the type, otherwise 0.
 fn is_read<'a, T: FromDer<'a>>(alloc: Global, octets: &'a [u8]) -> usize {
     match T::from_der(alloc, octets) {
         Ok(_value) => 1,
@@ -24,7 +25,8 @@ fn is_read<'a, T: FromDer<'a>>(alloc: Global, octets: &'a [u8]) -> usize {
     }
 }
 
-/// How many octets the value is written as that these are read as; 0 where they are refused.
+/// Returns the number of octets of the value's encoding after it is read and written; 0 if the
+/// octets are refused.
 fn rewritten<'a, T: FromDer<'a> + Encode>(alloc: Global, octets: &'a [u8]) -> usize {
     match T::from_der(alloc, octets) {
         Ok(value) => match value.to_der(alloc) {
@@ -35,7 +37,7 @@ fn rewritten<'a, T: FromDer<'a> + Encode>(alloc: Global, octets: &'a [u8]) -> us
     }
 }
 
-/// How many values stand in the octets, at each depth.
+/// Counts the values in the octets, at each depth.
 fn walked(alloc: Global, octets: &[u8], depth: u32) -> u32 {
     if depth == 0 {
         return 0;
@@ -61,7 +63,7 @@ fn walked(alloc: Global, octets: &[u8], depth: u32) -> u32 {
     count
 }
 
-/// Whether each attribute of a place of a name is read again.
+/// Returns whether each attribute of a relative name can be read again.
 fn has_attributes(alloc: Global, place: &RelativeDistinguishedName<'_>) -> bool {
     for attribute in place.items().iter(alloc) {
         if attribute.is_err() {
@@ -71,7 +73,8 @@ fn has_attributes(alloc: Global, place: &RelativeDistinguishedName<'_>) -> bool 
     true
 }
 
-/// Whether each place of a name is read again, and each attribute of it: 1, or 0.
+/// Returns 1 if each relative name of a name, and each of its attributes, can be read again,
+/// otherwise 0.
 fn name_is_read(alloc: Global, name: &Name<'_>) -> usize {
     for place in name.items().iter(alloc) {
         match place {
@@ -82,7 +85,8 @@ fn name_is_read(alloc: Global, name: &Name<'_>) -> usize {
     1
 }
 
-/// Whether the octets are a certificate, and its two names are read again, attribute by attribute.
+/// Returns 1 if the octets are a certificate whose two names can be read again, attribute by
+/// attribute, otherwise 0.
 fn certificate_with_names(alloc: Global, octets: &[u8]) -> usize {
     match Certificate::from_der(alloc, octets) {
         Ok(certificate) => {
@@ -94,7 +98,7 @@ fn certificate_with_names(alloc: Global, octets: &[u8]) -> usize {
     }
 }
 
-/// Whether the octets are a message that has SignedData as its content.
+/// Returns 1 if the octets are a message with SignedData as its content, otherwise 0.
 fn signed_message(alloc: Global, octets: &[u8]) -> usize {
     match ContentInfo::from_der(alloc, octets) {
         Ok(message) => match copy_of(message.content()).decode_as::<SignedData>(alloc) {
@@ -105,7 +109,8 @@ fn signed_message(alloc: Global, octets: &[u8]) -> usize {
     }
 }
 
-/// Whether the octets are an answer about the status of certificates that has a basic answer.
+/// Returns 1 if the octets are a response about the status of certificates with a basic response,
+/// otherwise 0.
 fn status_answer(alloc: Global, octets: &[u8]) -> usize {
     match OcspResponse::from_der(alloc, octets) {
         Ok(answer) => match answer.response_bytes() {
@@ -131,7 +136,7 @@ fn done(alloc: Global, mode: u8, octets: &[u8]) -> usize {
     }
 }
 
-/// The sum of what is answered, of each message so many times.
+/// Returns the sum of the results of `rounds` rounds over the messages.
 fn done_rounds(alloc: Global, mode: u8, rounds: u8, messages: &[OctetStringRef<'_>]) -> usize {
     let mut sum: usize = 0;
     for _ in 0..rounds {

@@ -1,5 +1,5 @@
-//! Reads lines, each a type's name, a space and hex digits, and answers each with the canonical
-//! encoding of the value that the digits encode, or with the number of what is wrong with them.
+//! Reads lines, each a type's name, a space and hex digits. Writes for each line the canonical
+//! encoding of the value that the digits encode, or the number of the error in them.
 #![tactic(auto)]
 
 use der_lines::{Fault, LineReader, OctetWriter, run};

@@ -1,4 +1,4 @@
--- The types by their names: what octets come to as each, and when reading it takes memory.
+-- The types by their names: the result of octets of each type, and when decoding takes memory.
 use Rattle.std.specs.Prelude.{ℕ, true, None, Some, if◌then◌else◌, codes}
 use Rattle.std.specs.Str.{bytes_eq}
 use Rattle.der_asn1_types.specs.Tag.TheVariants.{Boolean, Integer, Null, OctetString, ObjectIdentifier, Sequence, Set, BitString, Utf8String, GeneralString, BmpString, UtcTime, GeneralizedTime, NumericString, VisibleString, RelativeOid}
@@ -58,7 +58,7 @@ unsigned_types name =
     else if bytes_eq name (codes "u128") then Some (tagged never Integer (parse_unsigned 16))
     else None
 
--- values whose contents octets are kept as they stand: NULL, any value, OCTET STRING, and OBJECT
+-- values whose contents octets are kept unchanged: NULL, any value, OCTET STRING, and OBJECT
 -- IDENTIFIER in at most 39 octets
 unfoldable pub opaque_types : Table
 opaque_types name =
@@ -89,7 +89,7 @@ tagged_types name =
     else if bytes_eq name (codes "vec-ctx-u8") then Some (tagged between Sequence (parse_items (parse_explicit 2 (parse_tagged Integer (parse_unsigned 1)))))
     else None
 
--- INTEGER at any number of contents octets, and such as are not negative
+-- INTEGER with any number of contents octets, and non-negative INTEGER
 unfoldable pub number_types : Table
 number_types name =
     if bytes_eq name (codes "int") then Some (tagged at_last Integer parse_integer)
@@ -98,7 +98,7 @@ number_types name =
     else if bytes_eq name (codes "uintref") then Some (tagged never Integer parse_natural)
     else None
 
--- strings of characters that have one octet each, of the type with a universal number
+-- strings with one octet for each character, of the type with a universal number
 abbrev pub string : Taking → ℕ → Row
 string memory number = tagged memory (string_tag number) (parse_string number)
 
@@ -125,7 +125,7 @@ bit_types name =
     else if bytes_eq name (codes "ctx-bitsref") then Some (parsed never (parse_explicit 2 (parse_tagged BitString parse_bit_string)))
     else None
 
--- the encoding of an integer of two octets that is not negative
+-- the encoding of a non-negative integer of two octets
 abbrev pub parse_u16 : Parse
 parse_u16 = parse_tagged Integer (parse_unsigned 2)
 
@@ -133,7 +133,7 @@ parse_u16 = parse_tagged Integer (parse_unsigned 2)
 abbrev pub parse_algorithm_identifier : ContentsParse
 parse_algorithm_identifier = parse_field (parse_tagged ObjectIdentifier (parse_identifier 39)) (parse_field (parse_option (λ tag. true) parse_any) parse_end)
 
--- a SEQUENCE whose contents octets are kept, one of at most five items, one that keeps the octets of its items, and an AlgorithmIdentifier
+-- a SEQUENCE that keeps its contents octets, one of at most five items, one that keeps the octets of its items, and an AlgorithmIdentifier
 unfoldable pub nested_types : Table
 nested_types name =
     if bytes_eq name (codes "sequenceref") then Some (tagged never Sequence parse_octets)

@@ -1,4 +1,5 @@
-//! The names by which lines name the types of `der_asn1_types`, and of an AlgorithmIdentifier of `der_pkix`.
+//! The names of the types of `der_asn1_types`, and of an AlgorithmIdentifier of `der_pkix`, in
+//! lines.
 //!
 //! ```rust
 //! let octets = [0x30, 0x05, 0x06, 0x03, 0x2b, 0x65, 0x70];

@@ -311,8 +311,8 @@ fn put_borrowed_set(
     None
 }
 
-/// Puts the canonical encoding of a set that borrows its contents octets. It is proved once for every
-/// type of items, so that a call is checked sooner.
+/// Puts the canonical encoding of a set that borrows its contents octets. The function is proved
+/// once for every type of items, so that the check of a call is faster.
 fn put_canonical_borrowed<'a, T: Decode<'a, SliceReader<'a>> + Encode + DerOrd + Tagged + 'a>(
     alloc: Global,
     octets: &'a [u8],

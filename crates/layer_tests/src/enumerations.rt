@@ -5,7 +5,7 @@ ghost use Rattle.layer_tests.specs.Enumerations.{crl_reasons, versions};
 use der_elem::IntegerTag;
 use der_numbers::{EnumeratedTag, Enumeration};
 
-/// `CRLReason ::= ENUMERATED`, in which 7 is not used.
+/// `CRLReason ::= ENUMERATED`, which does not use 7.
 #[derive(Clone, Copy, Debug, PartialEq, Eq)]
 pub enum CrlReason {
     /// `unspecified` (0).

@@ -15,7 +15,7 @@ use der_recursive::Recursive;
 use der_tlv::{Error, SliceReader, Source, Tag};
 use std::alloc::Global;
 
-/// The alternatives, as a tree.
+/// The alternatives as a tree.
 type Tree<'a> = OneOf<
     OneOf<Implicit<SequenceRef<'a>, 0>, Kept<'a, Explicit<AnyRef<'a>, 2>>>,
     Implicit<OctetStringRef<'a>, 7>,
@@ -28,8 +28,8 @@ type Tree<'a> = OneOf<
 ///   present [7] OCTET STRING }
 /// ```
 ///
-/// The components that lead back are kept, and not read. That one value stands in `not`, its type says:
-/// the tag [2] is explicit, since `Filter` is a CHOICE.
+/// The recursive components are kept, and not read. The type of `not` says that it contains one
+/// value: the tag [2] is explicit, since `Filter` is a CHOICE.
 #[derive(Clone, Copy)]
 pub enum Filter<'a> {
     /// `and`, `[0] SET OF Filter`.
@@ -43,7 +43,7 @@ pub enum Filter<'a> {
 impl<'a> Filter<'a> {
     ghost use Rattle.layer_tests.specs.Filter.{held_of};
 
-    /// The octets of `and` or of `not`, at 0.
+    /// Returns the octets of `and` or of `not`, at index 0.
     fn held(self, index: usize) -> Option<&'a [u8]>
         ensures { LendsAt (held_of self.entry) index result }
     {

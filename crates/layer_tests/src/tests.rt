@@ -13,15 +13,15 @@ use std::fmt::Debug;
 use std::hash::{DefaultHasher, Hash, Hasher};
 use std::process::Abort;
 
-/// Asserts that what was found is what is wanted.
+/// Asserts that `found` is equal to `wanted`.
 ///
-/// The proof of a test takes an assertion in its own body with all that stands before it; so
-/// assertions stand in functions of their own, and each is proved once.
+/// The proof of a test processes an assertion in its own body together with all that precedes it.
+/// Assertions therefore have functions of their own, and each is proved once.
 fn same<T: PartialEq + Debug + Drop>(rt: &impl Abort, found: T, wanted: T) {
     assert_eq!(rt; found, wanted);
 }
 
-/// The same in one of several cases, which is told where it fails.
+/// Asserts that `found` is equal to `wanted`, and shows the case if it is not.
 fn same_in<C: Debug, T: PartialEq + Debug + Drop>(rt: &impl Abort, case: &C, found: T, wanted: T) {
     assert_eq!(rt; found, wanted, "{case:?}");
 }
@@ -31,7 +31,7 @@ fn holds(rt: &impl Abort, condition: bool) {
     assert!(rt; condition);
 }
 
-/// What a call answers, with a refusal by its number.
+/// Returns the result of a call, with a refusal as its number.
 fn numbered<T>(answer: Result<T, Error>) -> Result<T, u8> {
     match answer {
         Ok(value) => Ok(value),
@@ -39,7 +39,7 @@ fn numbered<T>(answer: Result<T, Error>) -> Result<T, u8> {
     }
 }
 
-/// The number of the refusal, or 0 where there is none.
+/// Returns the number of the refusal, or 0 if there is none.
 fn refusal<T: Drop>(answer: Result<T, Error>) -> u8 {
     match answer {
         Ok(_value) => 0,
@@ -47,12 +47,12 @@ fn refusal<T: Drop>(answer: Result<T, Error>) -> u8 {
     }
 }
 
-/// The tag of any type with a fixed tag, and the length of a value's encoding.
+/// Returns the tag of any type with a fixed tag, and the length of a value's encoding.
 fn measured<T: Encode + FixedTag>(value: &T) -> Result<(Tag, Length), Error> {
     Ok((T::TAG, value.encoded_len()?))
 }
 
-/// A number that is the same for values that are hashed alike.
+/// Returns the same number for values with the same hash.
 fn hashed<T: Hash>(value: &T) -> u64 {
     let mut hasher = DefaultHasher::new();
     value.hash(&mut hasher);

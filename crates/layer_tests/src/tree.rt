@@ -28,7 +28,7 @@ pub struct Tree<'a> {
 impl<'a> Tree<'a> {
     ghost use Rattle.layer_tests.specs.Tree.{held_of};
 
-    /// The octets of `left` at 0, and of `right` at 1.
+    /// Returns the octets of `left` at index 0, and of `right` at index 1.
     fn held(self, index: usize) -> Option<&'a [u8]>
         ensures { LendsAt (held_of self.entry) index result }
     {

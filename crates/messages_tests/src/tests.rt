@@ -22,13 +22,13 @@ use std::process::Abort;
 
 /// Asserts that the value found is the value wanted.
 ///
-/// The proof of a test takes an assertion in its own body with all statements before it; so
-/// assertions are in functions of their own, and each is proved once.
+/// The proof of a test processes an assertion in its own body together with all statements before
+/// it. Assertions therefore have functions of their own, and each is proved once.
 fn same<T: PartialEq + Debug + Drop>(rt: &impl Abort, found: T, wanted: T) {
     assert_eq!(rt; found, wanted);
 }
 
-/// Asserts the same in one of several cases, which a failure names.
+/// Asserts that the value found is the value wanted, and names the case if it is not.
 fn same_in<C: Debug, T: PartialEq + Debug + Drop>(rt: &impl Abort, case: &C, found: T, wanted: T) {
     assert_eq!(rt; found, wanted, "{case:?}");
 }
@@ -38,13 +38,13 @@ fn holds(rt: &impl Abort, condition: bool) {
     assert!(rt; condition);
 }
 
-/// Puts another octet at a position.
+/// Writes another octet at an offset.
 fn put(rt: &impl Abort, octets: &mut Vec<u8>, place: usize, octet: u8) {
     assert!(rt; place < octets.len());
     octets[place] = octet;
 }
 
-/// The value, or the number of the error.
+/// Returns the value, or the number of the error.
 fn numbered<T>(found: Result<T, Error>) -> Result<T, u8> {
     match found {
         Ok(value) => Ok(value),
@@ -52,7 +52,7 @@ fn numbered<T>(found: Result<T, Error>) -> Result<T, u8> {
     }
 }
 
-/// The encoding of the value that the octets are read as, or the number of the refusal.
+/// Returns the encoding of the value that the octets are read as, or the number of the refusal.
 fn again<'a, T: FromDer<'a> + Encode>(alloc: Global, octets: &'a [u8]) -> Result<Vec<u8>, u8> {
     match T::from_der(alloc, octets) {
         Ok(value) => numbered(value.to_der(alloc)),
@@ -60,7 +60,7 @@ fn again<'a, T: FromDer<'a> + Encode>(alloc: Global, octets: &'a [u8]) -> Result
     }
 }
 
-/// A copy of the octets, or the number of the refusal of memory.
+/// Returns a copy of the octets, or the number of the error if memory runs out.
 fn copied(alloc: Global, octets: &[u8]) -> Result<Vec<u8>, u8> {
     match Vec::from_slice(alloc, octets) {
         Ok(octets) => Ok(octets),
@@ -68,7 +68,7 @@ fn copied(alloc: Global, octets: &[u8]) -> Result<Vec<u8>, u8> {
     }
 }
 
-/// The order of two values, and whether they are equal.
+/// Returns the order of two values, and whether they are equal.
 fn compared<T: DerOrd + PartialEq>(first: &T, second: &T) -> Result<(Ordering, bool), u8> {
     match first.der_cmp(second) {
         Ok(order) => Ok((order, first == second)),
@@ -76,7 +76,7 @@ fn compared<T: DerOrd + PartialEq>(first: &T, second: &T) -> Result<(Ordering, b
     }
 }
 
-/// The order of the values that two encodings have, and whether they are equal.
+/// Returns the order of the values of two encodings, and whether they are equal.
 fn read_and_compared<'a, T: FromDer<'a> + DerOrd + PartialEq>(
     alloc: Global,
     first: &'a [u8],
@@ -89,7 +89,7 @@ fn read_and_compared<'a, T: FromDer<'a> + DerOrd + PartialEq>(
     }
 }
 
-/// Whether a copy is equal to its source.
+/// Returns whether a copy is equal to its source.
 fn is_copied<T: Duplicate + PartialEq>(value: &T) -> bool {
     match value.duplicate() {
         Ok(copy) => copy == *value,

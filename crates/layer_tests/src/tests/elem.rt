@@ -16,7 +16,7 @@ use std::fmt::Debug;
 use std::process::Abort;
 use std::test::Fail;
 
-// The value that contents octets are read as, or the number of the refusal.
+// Returns the value that contents octets are read as, or the number of the refusal.
 fn read<'a, T: DecodeValue<'a, SliceReader<'a>> + FixedTag>(
     alloc: Global,
     contents: &'a [u8],
@@ -30,7 +30,8 @@ fn read<'a, T: DecodeValue<'a, SliceReader<'a>> + FixedTag>(
     }
 }
 
-// The same with a reader that has refused before.
+// Returns the value that contents octets are read as by a reader that has refused before, or the
+// number of the refusal.
 fn read_again<'a, T: DecodeValue<'a, SliceReader<'a>> + FixedTag>(
     alloc: Global,
     contents: &'a [u8],
@@ -45,7 +46,7 @@ fn read_again<'a, T: DecodeValue<'a, SliceReader<'a>> + FixedTag>(
     }
 }
 
-// The contents octets that are written.
+// Returns the contents octets that a value is written as.
 fn written<T: EncodeValue>(alloc: Global, value: &T) -> Result<Vec<u8>, u8> {
     let mut writer = VecWriter::new(alloc);
     numbered(value.encode_value(&mut writer))?;
@@ -56,7 +57,8 @@ fn order<T: ValueOrd>(a: &T, b: &T) -> Result<Ordering, u8> {
     numbered(a.value_cmp(b))
 }
 
-// The value is written as these contents octets, measured as that many, and read from them.
+// Asserts that the value is written as these contents octets, measured as their number, and read
+// from them.
 fn is_coded<
     'a,
     T: DecodeValue<'a, SliceReader<'a>> + OneTag + EncodeValue + DuplicateValue + PartialEq + Debug,
@@ -71,7 +73,7 @@ fn is_coded<
     Ok(())
 }
 
-// The contents octets of each row are refused, by this number.
+// Asserts that the contents octets of each row are refused with this number.
 fn refuses<'a, T: DecodeValue<'a, SliceReader<'a>> + OneTag + PartialEq + Debug>(
     rt: &impl Abort,
     alloc: Global,
@@ -82,7 +84,7 @@ fn refuses<'a, T: DecodeValue<'a, SliceReader<'a>> + OneTag + PartialEq + Debug>
     }
 }
 
-// A reader that has refused before refuses these contents octets, whatever they are.
+// Asserts that a reader that has refused before refuses all these contents octets.
 fn stays_refused<'a, T: DecodeValue<'a, SliceReader<'a>> + OneTag>(
     rt: &impl Abort,
     alloc: Global,
@@ -98,12 +100,12 @@ fn stays_refused<'a, T: DecodeValue<'a, SliceReader<'a>> + OneTag>(
     }
 }
 
-// Whether reading takes memory, through the bound.
+// Returns whether reading takes memory, through the bound.
 fn takes_memory<'a, T: Decode<'a, SliceReader<'a>>>() -> bool {
     <T as TakesMemory>::TAKES_MEMORY
 }
 
-// The same of a type, of lists of it, and of its optional values.
+// Returns whether reading a type, a list of it and an optional value of it takes memory.
 fn memory_of<'a, T: DecodeValue<'a, SliceReader<'a>> + OneTag>() -> [bool; 3] {
     [
         takes_memory::<T>(),
@@ -112,8 +114,8 @@ fn memory_of<'a, T: DecodeValue<'a, SliceReader<'a>> + OneTag>() -> [bool; 3] {
     ]
 }
 
-// Reading a value, a list of such and an optional one takes memory as it is told, and a reader
-// that has refused before refuses these contents octets.
+// Asserts whether reading a value, a list of values and an optional value takes memory, and that
+// a reader that has refused before refuses these contents octets.
 fn is_read<'a, T: DecodeValue<'a, SliceReader<'a>> + OneTag>(
     rt: &impl Abort,
     alloc: Global,
@@ -124,8 +126,8 @@ fn is_read<'a, T: DecodeValue<'a, SliceReader<'a>> + OneTag>(
     stays_refused::<T>(rt, alloc, again);
 }
 
-// The tag of a type, what of it takes memory, the values that are coded, the contents octets that
-// are refused, and some that are read after a refusal.
+// Asserts the tag of a type, which of its readings take memory, the values that are coded, the
+// contents octets that are refused, and those that are read after a refusal.
 fn codes<
     'a,
     T: DecodeValue<'a, SliceReader<'a>> + OneTag + EncodeValue + DuplicateValue + PartialEq + Debug,
@@ -199,7 +201,7 @@ fn codes_texts(rt: HostRuntime) -> Result<(), Fail> {
     Ok(())
 }
 
-// The order of two texts, or the number of the refusal.
+// Returns the order of two texts, or the number of the refusal.
 fn order_of_texts(alloc: Global, a: &str, b: &str) -> Result<Ordering, u8> {
     match (String::from_str(alloc, a), String::from_str(alloc, b)) {
         (Ok(a), Ok(b)) => order(&a, &b),
@@ -216,7 +218,7 @@ fn a_text_is_before_a_longer_one(rt: HostRuntime) {
     );
 }
 
-// The same as of any type, of one with the tag INTEGER.
+// Asserts what `codes` does, for a type with the tag INTEGER.
 fn codes_integers<
     'a,
     T: DecodeValue<'a, SliceReader<'a>> + OneTag + EncodeValue + DuplicateValue + PartialEq + Debug,

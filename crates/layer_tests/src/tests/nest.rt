@@ -21,7 +21,8 @@ mod named_order;
 mod non_empty;
 mod probes;
 
-// The octets are read as a value that is written as the others, measured as that many, and copied.
+// Asserts that the octets are read as a value that is written as `canonical`, measured as that
+// number of octets, and copied.
 fn reads_as<'a, T: FromDer<'a> + Encode + Duplicate + DerOrd + EncodingEq>(
     rt: &impl Abort,
     alloc: Global,
@@ -42,7 +43,7 @@ fn reads_as<'a, T: FromDer<'a> + Encode + Duplicate + DerOrd + EncodingEq>(
     Ok(())
 }
 
-// The same of octets that are read as a set of either kind.
+// Asserts what `reads_as` does, for a set of either kind.
 fn set_reads_as(rt: &impl Abort, alloc: Global, octets: &[u8], canonical: &[u8]) -> Result<(), u8> {
     reads_as::<SetOfVec<u16>>(rt, alloc, octets, canonical)?;
     reads_as::<SetOf<u16, 2>>(rt, alloc, octets, canonical)
@@ -56,7 +57,7 @@ fn sets_are_read_in_any_order(rt: HostRuntime) -> Result<(), Fail> {
     Ok(())
 }
 
-// A set on the heap into which items were inserted, the greater one twice.
+// Returns a set on the heap after insertions, with the greater item inserted twice.
 fn inserted(rt: &impl Abort, alloc: Global, b: i32, c: i32) -> Result<SetOfVec<i32>, Error> {
     let mut set = SetOfVec::new(alloc);
     holds(rt, set.is_empty());
@@ -66,7 +67,7 @@ fn inserted(rt: &impl Abort, alloc: Global, b: i32, c: i32) -> Result<SetOfVec<i
     Ok(set)
 }
 
-// What a set of three items shows.
+// Asserts the items of a set of three items.
 fn is_shown(rt: &impl Abort, set: &SetOfVec<i32>, b: i32, c: i32) {
     holds(rt, set.as_slice() == [b, c, c].as_slice());
     same(rt, set.len(), 3);
@@ -75,7 +76,7 @@ fn is_shown(rt: &impl Abort, set: &SetOfVec<i32>, b: i32, c: i32) {
     same(rt, set.iter().len(), 3);
 }
 
-// The same set, with an item at its end and items at their places.
+// Returns the set after an item was added at its end and other items at their positions.
 fn extended(
     rt: &impl Abort,
     mut set: SetOfVec<i32>,
@@ -90,7 +91,7 @@ fn extended(
     Ok(set)
 }
 
-// Sets that are made at once are the set of the same items.
+// Asserts that sets made from an iterator and from an array equal the set with the same items.
 fn are_made(
     rt: &impl Abort,
     alloc: Global,
@@ -108,13 +109,13 @@ fn are_made(
     Ok(())
 }
 
-// The items of a vector, in order.
+// Returns the items of a vector in order.
 fn sorted(items: Vec<i32>) -> Result<Vec<i32>, Error> {
     let set: SetOfVec<i32> = SetOfVec::try_from(items)?;
     Ok(set.into())
 }
 
-// The calls of a set on the heap, with items of which each is greater than those before it.
+// Tests the calls of a set on the heap. Each item is greater than the ones before it.
 fn heap_calls(rt: &impl Abort, alloc: Global, a: i32, b: i32, c: i32) -> Result<(), Fail> {
     let set = numbered(inserted(rt, alloc, b, c))?;
     let items = Vec::from_array(alloc, [c, a])?;
@@ -127,7 +128,7 @@ fn heap_calls(rt: &impl Abort, alloc: Global, a: i32, b: i32, c: i32) -> Result<
     Ok(())
 }
 
-// A set of two items, in which there is room for no more.
+// Returns a full set of two items.
 fn full(rt: &impl Abort, a: u16, b: u16, c: u16, d: u16) -> Result<SetOf<u16, 2>, Error> {
     let mut set: SetOf<u16, 2> = SetOf::new();
     holds(rt, set.is_empty());
@@ -139,7 +140,7 @@ fn full(rt: &impl Abort, a: u16, b: u16, c: u16, d: u16) -> Result<SetOf<u16, 2>
     Ok(set)
 }
 
-// A set of an item that was inserted twice, and of one at the end.
+// Returns a set with one item inserted twice and another added at the end.
 fn twice(b: u16, c: u16) -> Result<SetOf<u16, 10>, Error> {
     let mut set: SetOf<u16, 10> = SetOf::default();
     set.insert(b)?;
@@ -148,7 +149,7 @@ fn twice(b: u16, c: u16) -> Result<SetOf<u16, 10>, Error> {
     Ok(set)
 }
 
-// The calls of a set of two items, with items of which each is greater than those before it.
+// Tests the calls of a set of two items. Each item is greater than the ones before it.
 fn array_calls(rt: &impl Abort, a: u16, b: u16, c: u16, d: u16) -> Result<(), u8> {
     let set = numbered(full(rt, a, b, c, d))?;
     holds(rt, set.as_slice() == [b, c].as_slice());
@@ -171,7 +172,7 @@ fn sets_keep_their_items_in_order(rt: HostRuntime) -> Result<(), Fail> {
     Ok(())
 }
 
-// The order of the sets of one item and of two.
+// Returns the order of a set of one item and a set of two.
 fn set_order(alloc: Global, small: u16, great: u16) -> Result<(Ordering, Ordering), u8> {
     let one: SetOfVec<u16> = numbered(SetOfVec::from_array(alloc, [great]))?;
     let two: SetOfVec<u16> = numbered(SetOfVec::from_array(alloc, [great, small]))?;
@@ -191,7 +192,7 @@ fn items_decide_the_order_before_their_number(rt: HostRuntime) -> Result<(), Fai
     Ok(())
 }
 
-// A sequence of two numbers.
+// Returns a sequence of two numbers.
 fn pair(first: u16, second: u16) -> Result<SequenceOf<u16, 2>, u8> {
     let mut sequence: SequenceOf<u16, 2> = SequenceOf::new();
     numbered(sequence.add(first))?;

@@ -13,13 +13,13 @@ use std::alloc::Global;
 use std::cmp::Ordering;
 use std::test::Fail;
 
-/// The octets of an OCTET STRING that holds Hello, world.
+/// The octets of an OCTET STRING with the contents Hello, world.
 const HELLO: [u8; 14] = *b"\x04\x0cHello, world";
 
 /// The octets of an OBJECT IDENTIFIER.
 const NAME: [u8; 5] = [0x06, 0x03, 0x55, 0x04, 0x03];
 
-/// The number of the error with which a borrowed value is refused, or 0.
+/// Returns the number of the error with which a borrowed value is refused, or 0.
 fn refusal(bytes: &[u8]) -> u8 {
     match AnyRef::try_from(bytes) {
         Ok(_) => 0,
@@ -179,7 +179,8 @@ fn any_keeps_what_it_is_given(rt: HostRuntime) -> Result<(), Fail> {
     Ok(())
 }
 
-/// Whether the copy of the value, and one made of its tag and its contents octets, are equal to it.
+/// Returns whether a copy of the value, and a value made from its tag and its contents octets,
+/// are equal to it.
 fn is_made_again(alloc: Global, any: &Any) -> Result<bool, Error> {
     let copy = any.duplicate()?;
     let Ok(octets) = any.value().to_vec(alloc) else {
@@ -189,14 +190,15 @@ fn is_made_again(alloc: Global, any: &Any) -> Result<bool, Error> {
     Ok(copy == *any && made == *any)
 }
 
-/// Whether what is borrowed from the value is the same in both ways, and owned again is equal to it.
+/// Returns whether both ways to borrow from the value agree, and whether the owned value made
+/// from the borrowed one is equal to it.
 fn is_borrowed(alloc: Global, any: &Any) -> Result<bool, Error> {
     let borrowed = any.owned_to_ref();
     let owned = borrowed.ref_to_owned(alloc)?;
     Ok(AnyRef::from(any) == borrowed && owned == *any)
 }
 
-/// Whether the value is what is kept of the OCTET STRING that these octets encode.
+/// Returns whether the value is the one that is kept from the OCTET STRING in these octets.
 fn is_kept_of(alloc: Global, any: &Any, octets: &[u8]) -> Result<bool, Error> {
     let string = OctetString::from_der(alloc, octets)?;
     let kept = Any::encode_from(alloc, &string)?;
@@ -240,7 +242,7 @@ fn any_is_decoded_as_a_type(rt: HostRuntime) -> Result<(), Fail> {
     Ok(())
 }
 
-/// Reads NULL and an OCTET STRING, and answers how many octets the string has.
+/// Reads NULL and an OCTET STRING, and returns the number of octets of the string.
 fn read_two(alloc: Global, reader: &mut SliceReader<'_>) -> Result<Length, Error> {
     let _null = Null::decode(alloc, reader)?;
     let string = OctetString::decode(alloc, reader)?;
@@ -259,7 +261,7 @@ fn sequence_of_two(alloc: Global, tag: Tag, contents: &[u8]) -> Result<Length, E
     }
 }
 
-/// Reads no value from the contents octets, after a refusal that is let go.
+/// Reads no value from the contents octets, after a refusal that is ignored.
 fn sequence_of_none(contents: &[u8]) -> Result<Length, ErrorKind> {
     let any = match AnyRef::new(Tag::Sequence, contents) {
         Ok(any) => any,
@@ -271,7 +273,7 @@ fn sequence_of_none(contents: &[u8]) -> Result<Length, ErrorKind> {
     }
 }
 
-/// Asks for more octets than there are, and goes on.
+/// Asks for more octets than there are, and continues.
 fn read_too_much(reader: &mut SliceReader<'_>) -> Result<Length, Error> {
     match reader.read_slice(Length::new(9)) {
         Ok(_) => Ok(Length::ONE),
@@ -279,7 +281,7 @@ fn read_too_much(reader: &mut SliceReader<'_>) -> Result<Length, Error> {
     }
 }
 
-/// The kind of an error.
+/// Returns the kind of an error.
 fn refused(e: Error) -> Result<Length, ErrorKind> {
     Err(e.kind)
 }
@@ -311,7 +313,7 @@ fn sequences_are_read_by_a_function(rt: HostRuntime) {
     );
 }
 
-/// An empty value with a constructed context-specific tag.
+/// Returns an empty value with a constructed context-specific tag.
 fn numbered(number: u32) -> Result<AnyRef<'static>, Error> {
     AnyRef::new(
         Tag::ContextSpecific {

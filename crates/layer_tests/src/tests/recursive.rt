@@ -11,13 +11,13 @@ use std::test::Fail;
 /// `present` of the octet 61.
 const PRESENT: [u8; 3] = [0x87, 0x01, 0x61];
 
-/// `not` of that.
+/// `not` with that value.
 const NOT: [u8; 5] = [0xa2, 0x03, 0x87, 0x01, 0x61];
 
-/// `and` of both.
+/// `and` with both.
 const AND: [u8; 10] = [0xa0, 0x08, 0x87, 0x01, 0x61, 0xa2, 0x03, 0x87, 0x01, 0x61];
 
-// The number of the refusal, or 0 where there is none.
+// Returns the number of the refusal, or 0 if there is none.
 fn number(answer: Result<(), Error>) -> u8 {
     match answer {
         Ok(()) => 0,
@@ -25,7 +25,7 @@ fn number(answer: Result<(), Error>) -> u8 {
     }
 }
 
-// Asserts that octets are refused so to the depths 0, 1, 2 and 3.
+// Asserts the refusals of octets at the depths 0, 1, 2 and 3.
 fn refused<T: Recursive>(rt: &impl Abort, alloc: Global, octets: &[u8], wanted: [u8; 4]) {
     for depth in 0..4 {
         let found = number(check_depth::<T>(alloc, octets, depth));
@@ -111,7 +111,7 @@ fn both_components_of_a_tree(rt: HostRuntime) -> Result<(), Fail> {
     Ok(())
 }
 
-// `not` within one another, 60 times, and `present` within.
+// Returns 60 nested `not` values with a `present` in the innermost one.
 fn many() -> [u8; 123] {
     let mut octets = [0x61; 123];
     for level in 0..60 {

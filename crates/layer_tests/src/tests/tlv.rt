@@ -15,12 +15,12 @@ use std::test::Fail;
 mod blocks;
 mod tag;
 
-/// What was refused, if anything was.
+/// Returns the error, if there is one.
 fn fault<T: Drop>(outcome: Result<T, Error>) -> Option<ErrorKind> {
     outcome.err().map(|e| e.kind)
 }
 
-/// A reader of these octets.
+/// Returns a reader of these octets.
 fn reader_of(octets: &[u8]) -> SliceReader<'_>
     requires { length octets.now < 2 ^ 32 }
 {
@@ -30,7 +30,7 @@ fn reader_of(octets: &[u8]) -> SliceReader<'_>
     }
 }
 
-/// The next octet, if it is read.
+/// Returns the next octet, if it is read.
 fn next(reader: &mut SliceReader<'_>) -> Option<u8> {
     match reader.read_byte() {
         Ok(octet) => Some(octet),
@@ -38,7 +38,7 @@ fn next(reader: &mut SliceReader<'_>) -> Option<u8> {
     }
 }
 
-/// Whether these octets are read next.
+/// Returns whether these octets are read next.
 fn reads_next(reader: &mut SliceReader<'_>, octets: &[u8]) -> bool
     requires { length octets.now < 2 ^ 32 }
 {
@@ -48,7 +48,7 @@ fn reads_next(reader: &mut SliceReader<'_>, octets: &[u8]) -> bool
     }
 }
 
-/// The end so far, where so many octets are nested.
+/// Returns the previous end after nesting `len` octets.
 fn nested(reader: &mut SliceReader<'_>, len: u32) -> Option<u32> {
     match reader.nest(Length::new(len)) {
         Ok(end) => Some(end.value()),
@@ -65,7 +65,7 @@ fn read_value<'a, R: Source<'a>>(reader: &mut R) -> Result<&'a [u8], Error> {
     Ok(contents)
 }
 
-/// What refuses the value at the beginning of the octets.
+/// Returns the error in the value at the start of the octets.
 fn fault_of_value(octets: &[u8]) -> Option<ErrorKind> {
     match SliceReader::new(octets) {
         Ok(mut reader) => fault(read_value(&mut reader)),
@@ -73,7 +73,7 @@ fn fault_of_value(octets: &[u8]) -> Option<ErrorKind> {
     }
 }
 
-/// The length in the header that these octets are.
+/// Returns the length in the header in these octets.
 fn length_of_header(octets: &[u8]) -> Result<u32, Error> {
     match SliceReader::new(octets) {
         Ok(mut reader) => {
@@ -85,7 +85,7 @@ fn length_of_header(octets: &[u8]) -> Result<u32, Error> {
     }
 }
 
-/// The tag in the header at the beginning of these octets.
+/// Returns the tag in the header at the start of these octets.
 fn tag_of_header(octets: &[u8]) -> Result<Tag, Error> {
     match SliceReader::new(octets) {
         Ok(mut reader) => Ok(Header::decode(&mut reader)?.tag()),
@@ -93,7 +93,7 @@ fn tag_of_header(octets: &[u8]) -> Result<Tag, Error> {
     }
 }
 
-/// The octets of a header.
+/// Returns the octets of a header.
 fn written(alloc: Global, header: Header) -> Result<Vec<u8>, Error> {
     let mut writer = VecWriter::new(alloc);
     header.encode(&mut writer)?;
@@ -114,7 +114,7 @@ fn trailing(decoded: u32, remaining: u32) -> Option<ErrorKind> {
     })
 }
 
-/// A tag with six identifier octets.
+/// Returns a tag with six identifier octets.
 fn long_tag() -> Tag {
     Tag::Private {
         constructed: false,
@@ -122,7 +122,7 @@ fn long_tag() -> Tag {
     }
 }
 
-/// BF FF 7F 82 01 00.
+/// Returns the header BF FF 7F 82 01 00.
 fn header_of_six_octets() -> Header {
     let tag = Tag::ContextSpecific {
         constructed: true,
@@ -228,7 +228,7 @@ fn tag_numbers_there_and_back(rt: HostRuntime) -> Result<(), Fail> {
     Ok(())
 }
 
-/// The header of an INTEGER of so many octets.
+/// Returns the header of an INTEGER with `len` contents octets.
 fn integer_header(len: u32) -> Header {
     Header::new(Tag::Integer, Length::ONE).with_length(Length::new(len))
 }
@@ -435,7 +435,8 @@ fn finishing_in_a_nest(rt: HostRuntime) {
     same(&rt, fault(reader.finish()), trailing(1, 1));
 }
 
-/// What putting back an end refuses, where two octets of four are nested and so many are read.
+/// Returns the number with which restoring an end is refused, after two of four octets are nested
+/// and `read` octets are read.
 fn unnest_refusal(read: u32, end: u32) -> u8 {
     let mut reader = reader_of(&[1, 2, 3, 4]);
     if nested(&mut reader, 2) != Some(4) || refusal(reader.read_slice(Length::new(read))) != 0 {
@@ -522,7 +523,7 @@ fn slice_writers_octet_by_octet(rt: HostRuntime) {
     }
 }
 
-/// Writes the octets to the front of the slice, which stays as it was where that is refused.
+/// Writes the octets to the start of the slice. A refusal leaves the slice unchanged.
 fn overwrite(slice: &mut [u8], octets: &[u8]) -> Result<(), Error>
     ensures { OnErr result (slice.new ≡ slice.old) }
 {
@@ -568,7 +569,7 @@ fn vector_writers(rt: HostRuntime) -> Result<(), Fail> {
     Ok(())
 }
 
-/// Where an allocation is made to fail, the writer keeps what it held and refuses from then on.
+/// If an allocation fails, the writer keeps its octets and refuses from then on.
 #[test]
 fn vector_writers_without_memory(rt: HostRuntime) {
     let mut writer = VecWriter::new(rt.alloc());
@@ -677,7 +678,7 @@ fn rules(rt: HostRuntime) {
     }
 }
 
-/// What a call answers that runs out of memory.
+/// Returns the result of a call that runs out of memory.
 fn refused_memory() -> Result<(), Error> {
     Err(AllocError)?;
     Ok(())

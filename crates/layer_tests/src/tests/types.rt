@@ -16,7 +16,7 @@ use std::alloc::Global;
 use std::cmp::Ordering;
 use std::process::Abort;
 
-/// Octets that are read as a value of the type, and written again.
+/// Reads octets as a value of the type, and writes the value again.
 fn round_trip<'a, T: FromDer<'a> + Encode>(
     alloc: Global,
     octets: &'a [u8],
@@ -25,7 +25,7 @@ fn round_trip<'a, T: FromDer<'a> + Encode>(
     value.to_der(alloc)
 }
 
-/// Whether octets are read as a value of the type, and written again as they were.
+/// Returns whether octets are read as a value of the type, and written again unchanged.
 fn stays<'a, T: FromDer<'a> + Encode>(alloc: Global, octets: &'a [u8]) -> bool {
     match round_trip::<T>(alloc, octets) {
         Ok(written) => written.as_slice() == octets,
@@ -33,7 +33,8 @@ fn stays<'a, T: FromDer<'a> + Encode>(alloc: Global, octets: &'a [u8]) -> bool {
     }
 }
 
-/// The octets are read as a value that is written as them, measured as that many, and copied.
+/// Asserts that the octets are read as a value that is written as these octets, measured as their
+/// number, and copied.
 fn reads_back<'a, T: FromDer<'a> + Encode + Duplicate + EncodingEq>(
     rt: &impl Abort,
     alloc: Global,
@@ -49,7 +50,7 @@ fn reads_back<'a, T: FromDer<'a> + Encode + Duplicate + EncodingEq>(
     Ok(())
 }
 
-/// The same, and the copy stands at the value's place in the order.
+/// Asserts what `reads_back` does, and that the copy compares as equal to the value.
 fn reads_back_in_order<'a, T: FromDer<'a> + Encode + Duplicate + DerOrd + EncodingEq>(
     rt: &impl Abort,
     alloc: Global,

@@ -6,7 +6,7 @@ mod names;
 
 use std::alloc::Global;
 
-// Octets that are wanted.
+// Returns the wanted octets.
 fn wanted(alloc: Global, octets: &str) -> Result<Vec<u8>, u8> {
     match hex::decode(alloc, octets) {
         Ok(octets) => Ok(octets),

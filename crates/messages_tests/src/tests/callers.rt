@@ -24,7 +24,7 @@ use der_examples::{
 use std::cmp::Ordering;
 use std::test::Fail;
 
-// A value with this context-specific tag.
+// Returns a value with this context-specific tag.
 fn tagged<T>(number: u32, tag_mode: TagMode, value: T) -> ContextSpecific<T> {
     ContextSpecific {
         tag_number: TagNumber(number),
@@ -81,7 +81,7 @@ fn a_set_stands_in_order(rt: HostRuntime) -> Result<(), Fail> {
     Ok(())
 }
 
-/// A policy with a qualifier, and no version.
+/// Returns a policy with a qualifier, and no version.
 fn octets_without_version() -> [u8; 10] {
     [0x30, 0x08, 0x06, 0x02, 0x2a, 0x03, 0x04, 0x02, 0x01, 0x02]
 }

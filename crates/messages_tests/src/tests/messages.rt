@@ -13,7 +13,7 @@ use der_time_stamp::time_stamp::{TimeStampReq, TimeStampResp, TstInfo};
 use std::alloc::Global;
 use std::cmp::Ordering;
 
-/// A type of messages.
+/// A message type.
 #[derive(Clone, Copy, Debug, PartialEq, Eq)]
 pub(super) enum Message {
     EnvelopedData,
@@ -40,11 +40,11 @@ pub(super) enum Message {
     SecretBag,
 }
 
-/// What is found of two encodings: that of the first one's value, whether its copy is equal to it,
-/// the order of the two values, and whether they are equal.
+/// The results for two encodings: the encoding of the first one's value, whether its copy is
+/// equal to it, the order of the two values, and whether they are equal.
 pub(super) type Tried = (Vec<u8>, bool, Ordering, bool);
 
-// The order of two values, or the number of why there is none.
+// Returns the order of two values, or the number of the error.
 fn order_of<T: DerOrd>(first: &T, second: &T) -> Result<Ordering, u8> {
     match first.der_cmp(second) {
         Ok(order) => Ok(order),
@@ -52,7 +52,7 @@ fn order_of<T: DerOrd>(first: &T, second: &T) -> Result<Ordering, u8> {
     }
 }
 
-// What is found of two values.
+// Returns the results for two values.
 fn tried_of<T: Encode + DerOrd + Duplicate + PartialEq>(
     alloc: Global,
     first: &T,
@@ -63,7 +63,7 @@ fn tried_of<T: Encode + DerOrd + Duplicate + PartialEq>(
     Ok((written, is_copied(first), order, first == second))
 }
 
-// What is found of two encodings, or the number of the first refusal.
+// Returns the results for two encodings, or the number of the first refusal.
 fn tried<'a, T: FromDer<'a> + Encode + DerOrd + Duplicate + PartialEq>(
     alloc: Global,
     first: &'a [u8],
@@ -164,7 +164,7 @@ fn secret_bag(alloc: Global, first: &[u8], second: &[u8]) -> Result<Tried, u8> {
     tried::<SecretBag>(alloc, first, second)
 }
 
-// The same of octets of that type.
+// Returns the results for two encodings of this message type.
 pub(super) fn tried_as(
     message: Message,
     alloc: Global,

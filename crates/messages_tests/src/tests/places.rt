@@ -10,7 +10,7 @@ mod status;
 
 use der_places::Place;
 
-/// A place of so many octets, behind so many.
+/// Returns the byte range of `length` octets at `offset`.
 fn at(offset: u32, length: u32) -> Place {
     Place { offset, length }
 }

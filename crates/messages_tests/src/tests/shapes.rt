@@ -18,7 +18,7 @@ mod times;
 use crate::tests::numbered;
 use der_tlv::Error;
 
-// The item of a list, or the number of why there is none: 0 where the list is too short.
+// Returns the item of a list, or the number of the error; 0 if the list is too short.
 fn item<T>(found: Option<Result<T, Error>>) -> Result<T, u8> {
     match found {
         Some(item) => numbered(item),

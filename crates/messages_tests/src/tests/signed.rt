@@ -19,7 +19,7 @@ use der_ocsp::ocsp::OcspResponse;
 use der_pkix::name::Attribute;
 use std::alloc::Global;
 
-// Whether a copy of what the octets are read as is equal to it.
+// Returns whether a copy of the value that the octets are read as is equal to it.
 fn read_and_copied<'a, T: FromDer<'a> + Duplicate + PartialEq>(
     alloc: Global,
     octets: &'a [u8],
@@ -30,12 +30,12 @@ fn read_and_copied<'a, T: FromDer<'a> + Duplicate + PartialEq>(
     }
 }
 
-// An answer about the status of certificates, read and written back.
+// Reads a response about the status of certificates, and writes it again.
 fn answer_again(alloc: Global, octets: &[u8]) -> Result<Vec<u8>, u8> {
     again::<OcspResponse>(alloc, octets)
 }
 
-// The encoding of what stands in a message.
+// Returns the encoding of the content of a message.
 fn content_of(alloc: Global, octets: &[u8]) -> Result<Vec<u8>, u8> {
     match ContentInfo::from_der(alloc, octets) {
         Ok(message) => numbered(message.content().to_der(alloc)),
@@ -43,7 +43,7 @@ fn content_of(alloc: Global, octets: &[u8]) -> Result<Vec<u8>, u8> {
     }
 }
 
-// The encoding of the first value of an attribute.
+// Returns the encoding of the first value of an attribute.
 fn first_value(alloc: Global, attribute: &Attribute) -> Result<Vec<u8>, u8> {
     match attribute.values().get(alloc, 0) {
         Some(Ok(value)) => numbered(value.to_der(alloc)),

@@ -9,7 +9,8 @@ use std::cmp::Ordering;
 use std::process::Abort;
 use std::test::Fail;
 
-/// Each row is read and written back, its copy is equal to it, and so is it to itself.
+/// Asserts that each row is read and written back, that its copy is equal to it, and that it is
+/// equal to itself.
 pub(super) fn are_written_back(
     rt: &impl Abort,
     alloc: Global,
@@ -25,7 +26,7 @@ pub(super) fn are_written_back(
     Ok(())
 }
 
-/// Each beginning of the row is refused, since octets are missing.
+/// Asserts that each proper prefix of the row is refused, since octets are missing.
 fn cuts_are_refused(rt: &impl Abort, alloc: Global, row: &(Message, &str)) -> Result<(), Fail> {
     let (message, digits) = *row;
     let octets = hex::decode(alloc, digits)?;
@@ -36,7 +37,7 @@ fn cuts_are_refused(rt: &impl Abort, alloc: Global, row: &(Message, &str)) -> Re
     Ok(())
 }
 
-/// Each beginning of each row is refused.
+/// Asserts that each proper prefix of each row is refused.
 pub(super) fn all_cuts_are_refused(
     rt: &impl Abort,
     alloc: Global,
@@ -48,7 +49,7 @@ pub(super) fn all_cuts_are_refused(
     Ok(())
 }
 
-/// Each row is refused, by its number.
+/// Asserts that each row is refused with its number.
 pub(super) fn are_refused(
     rt: &impl Abort,
     alloc: Global,
@@ -63,7 +64,7 @@ pub(super) fn are_refused(
     Ok(())
 }
 
-/// Each row is refused with another octet in a place, by its number.
+/// Asserts that each row with another octet at an offset is refused with its number.
 pub(super) fn changes_are_refused(
     rt: &impl Abort,
     alloc: Global,
@@ -79,7 +80,7 @@ pub(super) fn changes_are_refused(
     Ok(())
 }
 
-/// The two of each row are in its order, and are not equal.
+/// Asserts that the two values of each row are in its order and not equal.
 pub(super) fn are_in_order(
     rt: &impl Abort,
     alloc: Global,

@@ -28,12 +28,12 @@ use std::alloc::Global;
 use std::process::Abort;
 use std::test::Fail;
 
-/// What a run answers and writes.
+/// Returns the result of a run and the octets that it writes.
 fn written(alloc: Global, input: &[u8]) -> (Result<Outcome, Fault>, Vec<u8>) {
     written_so(alloc, &View::plain(), input)
 }
 
-/// What a run answers and writes that shows an input so.
+/// Returns the result of a run with these options and the octets that it writes.
 fn written_so(alloc: Global, view: &View<'_>, input: &[u8]) -> (Result<Outcome, Fault>, Vec<u8>) {
     let mut written = Vec::new(alloc);
     let mut reader = input;
@@ -41,7 +41,7 @@ fn written_so(alloc: Global, view: &View<'_>, input: &[u8]) -> (Result<Outcome, 
     (result, written)
 }
 
-/// The number of the refusal that a run answers.
+/// Returns the number of the refusal that a run returns.
 fn number_of(alloc: Global, octets: &[u8]) -> Option<u8> {
     let (result, _written) = written(alloc, octets);
     match result {

@@ -9,7 +9,7 @@ use std::alloc::Global;
 use std::io::{self, BufReader, ErrorKind, Read, Write};
 use std::test::Fail;
 
-/// What a run over memory answers and writes.
+/// Returns the result of a run over memory and the octets that it writes.
 fn answers(alloc: Global, text: &[u8]) -> (Result<(), Fault>, Vec<u8>) {
     let mut written = Vec::new(alloc);
     let mut input = LineReader::new(text, u64::MAX);
@@ -100,7 +100,7 @@ fn refuses_too_many_lines(rt: HostRuntime) {
     }
 }
 
-/// Gives its octets three at a time, each after an interruption, and then fails.
+/// A reader that gives its octets three at a time, each after an interruption, and then fails.
 #[derive(Drop)]
 struct FailingReader<'a> {
     text: &'a [u8],
@@ -167,8 +167,8 @@ fn stops_where_a_read_fails(rt: HostRuntime) -> Result<(), Fail> {
     Ok(())
 }
 
-/// Takes two octets at a time, each after an interruption, and when it is full it fails or takes
-/// none.
+/// A writer that accepts two octets at a time, each after an interruption. When it is full, it
+/// fails or accepts none.
 #[derive(Drop)]
 struct FailingWriter<'a> {
     written: &'a mut Vec<u8>,

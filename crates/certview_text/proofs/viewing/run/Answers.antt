@@ -2,7 +2,7 @@ use Rattle.std.proofs.Common.{◌≡◌, ℕ, List, Option, Some, None, Result, 
 use Rattle.certview_text.specs.Shown.{IsShown}
 use Rattle.certview_text.proofs.viewing.run.Goals as goal
 
--- what is known of octets is known of all that was read
+-- what is known of octets is known of the whole input
 on_read : {A E : Type 0} (P : List ℕ → Type 0) (r : Result A E) (all : Option (List ℕ)) (octets items : List ℕ) → octets ≡ items → IfSome all (λ text. items ≡ text) → OnOk r (P octets) → OnOk r (IfSome all P)
 on_read P (Ok a) (Some text) octets items e read shown = subst P (e ∙ read) shown
 on_read P (Ok a) None octets items e read shown = tt

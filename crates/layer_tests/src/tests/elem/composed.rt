@@ -13,7 +13,7 @@ use std::fmt::Debug;
 use std::process::Abort;
 use std::test::Fail;
 
-// What the octets are read as, or the number of the refusal.
+// Returns the value that the octets are read as, or the number of the refusal.
 fn read<'a, T: FromDer<'a>>(alloc: Global, octets: &'a [u8]) -> Result<T, u8> {
     numbered(T::from_der(alloc, octets))
 }
@@ -22,8 +22,8 @@ fn order<T: DerOrd>(a: &T, b: &T) -> Result<Ordering, u8> {
     numbered(a.der_cmp(b))
 }
 
-// The value is written as these octets into a buffer of as many, and into no shorter one. In a longer
-// one, what stands after them is left as it was.
+// Asserts that the value is written as these octets into a buffer of that size, and into no
+// shorter one. In a longer buffer the octets after them are unchanged.
 fn needs_room<T: Encode>(
     rt: &impl Abort,
     alloc: Global,
@@ -69,7 +69,8 @@ fn leaves_what_stands_after<T: Encode>(
     Ok(())
 }
 
-// The octets are read as a value that is written as them, measured as that many, and copied.
+// Asserts that the octets are read as a value that is written as these octets, measured as their
+// number, and copied.
 fn reads_back<'a, T: FromDer<'a> + Encode + Duplicate + DerOrd>(
     rt: &impl Abort,
     alloc: Global,
@@ -88,14 +89,14 @@ fn reads_back<'a, T: FromDer<'a> + Encode + Duplicate + DerOrd>(
     needs_room(rt, alloc, &value, octets)
 }
 
-// The octets of each row are refused, by this number.
+// Asserts that the octets of each row are refused with this number.
 fn refuses<'a, T: FromDer<'a>>(rt: &impl Abort, alloc: Global, refused: &[(&'a [u8], u8)]) {
     for (octets, number) in refused {
         same_in(rt, octets, read::<T>(alloc, octets).err(), Some(*number));
     }
 }
 
-// Some octets are read back as values of a type, and others are refused.
+// Asserts that some octets are read back as values of a type, and that others are refused.
 fn whole<
     'a,
     T: DecodeValue<'a, SliceReader<'a>> + OneTag + EncodeValue + DuplicateValue + ValueOrd,
@@ -107,7 +108,7 @@ fn whole<
     Ok(())
 }
 
-// The same of a list of values of the type.
+// Asserts what `whole` does, for a list of values of the type.
 fn whole_lists<
     'a,
     T: DecodeValue<'a, SliceReader<'a>> + OneTag + EncodeValue + DuplicateValue + ValueOrd,
@@ -115,7 +116,7 @@ fn whole_lists<
     whole::<Vec<T>>(rt, alloc, kept, refused)
 }
 
-// The same of a list of lists of such lists.
+// Asserts what `whole_lists` does, for the type and for lists of it.
 fn whole_nested_lists<
     'a,
     T: DecodeValue<'a, SliceReader<'a>> + OneTag + EncodeValue + DuplicateValue + ValueOrd,
@@ -170,7 +171,7 @@ fn whole_lists_of_lists(rt: HostRuntime) -> Result<(), Fail> {
     Ok(())
 }
 
-// The same of an optional value of the type.
+// Asserts what `whole` does, for an optional value of the type.
 fn whole_options<
     'a,
     T: DecodeValue<'a, SliceReader<'a>> + OneTag + EncodeValue + DuplicateValue + ValueOrd,
@@ -193,7 +194,7 @@ fn whole_optional_integers(rt: HostRuntime) -> Result<(), Fail> {
     Ok(())
 }
 
-// What a call answers, with the kind of a refusal.
+// Returns the result of a call, with a refusal as its kind.
 fn kinded<T>(answer: Result<T, Error>) -> Result<T, ErrorKind> {
     match answer {
         Ok(value) => Ok(value),
@@ -241,7 +242,7 @@ fn orders_by_encodings(rt: HostRuntime) -> Result<(), Fail> {
     Ok(())
 }
 
-// Whether the octets are read as these numbers; nothing where they are refused.
+// Returns whether the octets are read as these numbers, or nothing if they are refused.
 fn read_as(alloc: Global, octets: &[u8], numbers: &[u16]) -> Option<bool> {
     match read::<Vec<u16>>(alloc, octets) {
         Ok(again) => Some(again.as_slice() == numbers),
@@ -265,7 +266,7 @@ fn reads_a_thousand_items(rt: HostRuntime) -> Result<(), Fail> {
     Ok(())
 }
 
-// The tag of a value, and what the type says of tags.
+// Returns the tag of a value, and the type's results about tags.
 fn tag_of<T: Tagged + Choice + FixedTag + IsConstructed>(value: &T) -> (Tag, bool, bool, bool) {
     (
         value.tag(),
@@ -285,7 +286,7 @@ fn knows_tags(rt: HostRuntime) -> Result<(), Fail> {
     Ok(())
 }
 
-// Reads a value in the middle of octets, and says where the reader stands.
+// Reads a value at the start of octets. Returns it, the reader's position and the next octet.
 fn decode<'a, T: Decode<'a, SliceReader<'a>>>(
     alloc: Global,
     octets: &'a [u8],
@@ -300,10 +301,10 @@ fn decode<'a, T: Decode<'a, SliceReader<'a>>>(
     }
 }
 
-// What a value is read as, where the reader stands then, and the next octet.
+// The value, the reader's position after it, and the next octet.
 type First<T> = (Result<T, u8>, u32, Result<u8, u8>);
 
-// The first value of the octets of each row is read so.
+// Asserts that the first value of each row's octets is read in this way.
 fn first_values<'a, T: Decode<'a, SliceReader<'a>> + Copy + PartialEq + Debug>(
     rt: &impl Abort,
     alloc: Global,
@@ -340,7 +341,7 @@ fn reads_the_first_optional_value(rt: HostRuntime) {
     );
 }
 
-// The encoding of a value, through the bound.
+// Returns the encoding of a value, through the bound.
 fn encoding<T: Encode>(alloc: Global, value: &T) -> Result<Vec<u8>, u8> {
     let len = numbered(value.encoded_len())?;
     let octets = numbered(value.to_der(alloc))?;
@@ -371,12 +372,12 @@ fn writes_borrowed_options(rt: HostRuntime) -> Result<(), Fail> {
     Ok(())
 }
 
-// Whether two values are equal, through the bound.
+// Returns whether two values are equal, through the bound.
 fn equal<T: EncodingEq>(a: &T, b: &T) -> bool {
     a == b
 }
 
-// Whether two values are equal that the octets are read as.
+// Returns whether the two values that the octets are read as are equal.
 fn equal_as<'a, T: FromDer<'a> + EncodingEq + Duplicate>(
     alloc: Global,
     octets: &'a [u8],
@@ -387,7 +388,7 @@ fn equal_as<'a, T: FromDer<'a> + EncodingEq + Duplicate>(
     Ok(equal(&a, &b) && equal(&copy, &a))
 }
 
-// The octets of each row are read as values that are equal, or that are not.
+// Asserts for each row whether its octets are read as equal values.
 fn equals<'a, T: DecodeValue<'a, SliceReader<'a>> + OneTag + ContentsEq + DuplicateValue>(
     rt: &impl Abort,
     alloc: Global,
@@ -403,7 +404,7 @@ fn equals<'a, T: DecodeValue<'a, SliceReader<'a>> + OneTag + ContentsEq + Duplic
     }
 }
 
-// The same of a list of values.
+// Asserts what `equals` does, for lists of values.
 fn equal_lists<'a, T: DecodeValue<'a, SliceReader<'a>> + OneTag + ContentsEq + DuplicateValue>(
     rt: &impl Abort,
     alloc: Global,
@@ -412,7 +413,7 @@ fn equal_lists<'a, T: DecodeValue<'a, SliceReader<'a>> + OneTag + ContentsEq + D
     equals::<Vec<T>>(rt, alloc, rows);
 }
 
-// The same of optional values.
+// Asserts what `equals` does, for optional values.
 fn equal_options<'a, T: DecodeValue<'a, SliceReader<'a>> + OneTag + ContentsEq + DuplicateValue>(
     rt: &impl Abort,
     alloc: Global,

@@ -4,7 +4,7 @@ use crate::tests::{holds, same_in};
 use der_elem::{DerOrd, Encode};
 use std::process::Abort;
 
-// Whether the order of the values is that of their encodings.
+// Returns whether the order of the values is the order of their encodings.
 fn is_that_of_encodings<T: DerOrd + Encode>(a: &T, b: &T) -> bool {
     let (mut a_room, mut b_room) = ([0; 19], [0; 19]);
     let Ok(a_octets) = a.encode_to_slice(&mut a_room) else {
@@ -19,7 +19,7 @@ fn is_that_of_encodings<T: DerOrd + Encode>(a: &T, b: &T) -> bool {
     }
 }
 
-// The same of each pair of the values.
+// Asserts for each pair of the values that their order is the order of their encodings.
 fn all_pairs<T: DerOrd + Encode>(rt: &impl Abort, values: &[T]) {
     for a in values {
         for b in values {

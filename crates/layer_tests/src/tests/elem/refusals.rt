@@ -22,7 +22,7 @@ fn a_reader_stays_refused_by_a_value(rt: HostRuntime) -> Result<(), Fail> {
     Ok(())
 }
 
-// What a call answers, with the position of a refusal.
+// Returns the result of a call, with a refusal as its position.
 fn placed<T>(answer: Result<T, Error>) -> Result<T, Option<Length>> {
     match answer {
         Ok(value) => Ok(value),
@@ -30,12 +30,12 @@ fn placed<T>(answer: Result<T, Error>) -> Result<T, Option<Length>> {
     }
 }
 
-// The position at which octets are refused as a value.
+// Returns the position at which octets are refused as a value.
 fn place<'a, T: FromDer<'a>>(alloc: Global, octets: &'a [u8]) -> Option<Option<Length>> {
     placed(T::from_der(alloc, octets)).err()
 }
 
-// The octets of each row are refused at this position.
+// Asserts that the octets of each row are refused at this position.
 fn places<'a, T: DecodeValue<'a, SliceReader<'a>> + OneTag>(
     rt: &impl Abort,
     alloc: Global,

@@ -10,7 +10,8 @@ use std::cmp::Ordering;
 use std::process::Abort;
 use std::test::Fail;
 
-// The octets that a set is written as which is read from these, or the number of the refusal.
+// Returns the octets that a set is written as after it is read from these octets, or the number
+// of the refusal.
 fn canonical<'a, T: 'a + Decode<'a, SliceReader<'a>> + Encode + DerOrd + Tagged>(
     alloc: Global,
     octets: &'a [u8],
@@ -19,7 +20,7 @@ fn canonical<'a, T: 'a + Decode<'a, SliceReader<'a>> + Encode + DerOrd + Tagged>
     numbered(set.to_der(alloc))
 }
 
-// The octets are read as a set that is written as these.
+// Asserts that the octets are read as a set that is written as the canonical octets.
 fn reads_as<'a, T: 'a + Decode<'a, SliceReader<'a>> + Encode + DerOrd + Tagged>(
     rt: &impl Abort,
     alloc: Global,
@@ -116,7 +117,8 @@ fn borrows_slices_in_order(rt: HostRuntime) -> Result<(), Fail> {
     Ok(())
 }
 
-// Asserts that the items of a set are these numbers, in order, and that a walk knows how many are left.
+// Asserts that the items of a set are these numbers, in order, and that an iterator knows how
+// many are left.
 fn gives(rt: &impl Abort, set: &SetOfRef<'_, u16>, numbers: &[u16]) {
     let mut items = set.iter();
     let mut left = numbers.len();
@@ -163,7 +165,7 @@ fn gives_the_items_of_a_slice(rt: HostRuntime) -> Result<(), Fail> {
     Ok(())
 }
 
-// The order of two sets of borrowed numbers.
+// Returns the order of two sets of borrowed numbers.
 fn order<'a>(items: &'a [u16], others: &'a [u16]) -> Result<Ordering, u8> {
     let set = numbered(SetOfRef::try_from(items))?;
     let other = numbered(SetOfRef::try_from(others))?;
@@ -185,7 +187,7 @@ fn orders_slices_by_encodings(rt: HostRuntime) {
     same(&rt, order(&[1, 2], &[1, 2]), Ok(Ordering::Equal));
 }
 
-// The order of a set that is read and of one of borrowed numbers, and the other way round.
+// Returns the order of a set that is read and a set of borrowed numbers, and the reverse.
 fn orders<'a>(
     alloc: Global,
     octets: &'a [u8],
@@ -217,7 +219,7 @@ fn orders_octets_by_encodings(rt: HostRuntime) {
     );
 }
 
-// Whether reading a set of these items takes memory.
+// Returns whether reading a set of these items takes memory.
 fn takes_memory<'a, T: 'a + Decode<'a, SliceReader<'a>> + DerOrd + Tagged>() -> bool {
     <SetOfRef<'a, T> as TakesMemory<'a>>::TAKES_MEMORY
 }
@@ -228,7 +230,8 @@ fn takes_memory_as_the_items_do(rt: HostRuntime) {
     holds(&rt, takes_memory::<SetOfVec<u16>>());
 }
 
-// Walks a set of sets: how many items came, or the refusal, which is then the last.
+// Iterates over a set of sets. Returns the number of items, or the refusal, which is then the
+// last item.
 fn walked(rt: &impl Abort, set: &SetOfRef<'_, SetOfVec<u16>>) -> Result<usize, u8> {
     let mut items = set.iter();
     while let Some(item) = items.next() {
@@ -241,7 +244,7 @@ fn walked(rt: &impl Abort, set: &SetOfRef<'_, SetOfVec<u16>>) -> Result<usize, u
     Ok(set.len())
 }
 
-// A set of sets is measured, and compared with itself.
+// Measures a set of sets and returns the result of its comparison with itself.
 fn measured(set: &SetOfRef<'_, SetOfVec<u16>>) -> Result<Ordering, u8> {
     numbered(set.value_len())?;
     numbered(set.der_cmp(set))

@@ -22,7 +22,7 @@ const NUMBERS: [u8; 12] = [
     0x30, 0x0a, 0x02, 0x01, 0x08, 0x02, 0x01, 0x07, 0x02, 0x02, 0x01, 0x2c,
 ];
 
-// Two sets, of which the first does not stand in order.
+// Two sets; the first one is not in order.
 const SETS: [u8; 15] = [
     0x30, 0x0d, 0x31, 0x06, 0x02, 0x01, 0x08, 0x02, 0x01, 0x07, 0x31, 0x03, 0x02, 0x01, 0x09,
 ];
@@ -71,7 +71,8 @@ fn the_first_fault_is_told_from_the_contents(rt: HostRuntime) {
     }
 }
 
-// Asserts that the items are these numbers, in order, and that a walk knows how many are left.
+// Asserts that the items are these numbers, in order, and that an iterator knows how many are
+// left.
 fn gives(rt: &impl Abort, sequence: &Numbers<'_>, numbers: &[u16]) {
     let mut items = sequence.iter();
     let mut left = numbers.len();
@@ -152,7 +153,7 @@ fn sequences_are_printed(rt: HostRuntime) -> Result<(), Fail> {
     Ok(())
 }
 
-// Whether reading a sequence of these items takes memory.
+// Returns whether reading a sequence of these items takes memory.
 fn takes_memory<'a, T: 'a + Decode<'a, SliceReader<'a>> + Choice>() -> bool {
     <SequenceOfRef<'a, T> as TakesMemory<'a>>::TAKES_MEMORY
 }
@@ -163,7 +164,8 @@ fn a_sequence_takes_memory_as_its_items_do(rt: HostRuntime) {
     holds(&rt, takes_memory::<SetOfVec<u16>>());
 }
 
-// Walks a sequence of sets: how many items came, or the refusal, which is then the last.
+// Iterates over a sequence of sets. Returns the number of items, or the refusal, which is then
+// the last item.
 fn walked(rt: &impl Abort, sequence: &Sets<'_>) -> Result<usize, u8> {
     let mut items = sequence.iter();
     while let Some(item) = items.next() {

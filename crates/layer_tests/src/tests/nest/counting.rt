@@ -68,13 +68,14 @@ pub fn with_count<T>(value: T, comparisons: &Cell<u32>) -> Counted<'_, T> {
     Counted { value, comparisons }
 }
 
-// Asserts that an item is compared at most as often as the number of items has binary digits.
+// Asserts that an item is compared at most as many times as the number of items has binary
+// digits.
 pub fn few(rt: &impl Abort, items: usize, comparisons: &Cell<u32>) {
     let digits = usize::BITS - items.leading_zeros();
     holds(rt, comparisons.get() <= digits);
 }
 
-// Inserts the items, and counts the comparisons of each.
+// Inserts the items and checks the number of comparisons of each.
 fn inserts<T: DerOrd>(
     rt: &impl Abort,
     alloc: Global,
@@ -91,7 +92,7 @@ fn inserts<T: DerOrd>(
     Ok(())
 }
 
-// Puts the items at the end, each of which is compared with the last one alone.
+// Adds the items at the end. Each is compared with the last one only.
 fn appends<T: DerOrd>(
     rt: &impl Abort,
     alloc: Global,
@@ -108,8 +109,8 @@ fn appends<T: DerOrd>(
     Ok(())
 }
 
-// The numbers from 1 to 4000, of which each is the one before it, times a factor, and a step on,
-// over 4001, which is prime.
+// Returns the numbers from 1 to 4000. Each is the previous one, times `factor`, plus `step`,
+// modulo 4001, which is prime.
 fn series<'a>(
     alloc: Global,
     comparisons: &'a Cell<u32>,
@@ -125,7 +126,7 @@ fn series<'a>(
     Ok(items)
 }
 
-// How many comparisons a reading makes.
+// Returns the number of comparisons of a reading.
 fn read<T: DerOrd>(alloc: Global, items: Vec<T>, comparisons: &Cell<u32>) -> Result<u32, u8> {
     comparisons.set(0);
     let mut runs = Runs::new(alloc);
@@ -136,14 +137,14 @@ fn read<T: DerOrd>(alloc: Global, items: Vec<T>, comparisons: &Cell<u32>) -> Res
     Ok(comparisons.get())
 }
 
-// How many comparisons make a set of an iterator's items.
+// Returns the number of comparisons to make a set from an iterator's items.
 fn collected<T: DerOrd>(alloc: Global, items: Vec<T>, comparisons: &Cell<u32>) -> Result<u32, u8> {
     comparisons.set(0);
     numbered(SetOfVec::from_iter(alloc, items))?;
     Ok(comparisons.get())
 }
 
-// How many comparisons it takes to extend a set by items.
+// Returns the number of comparisons to extend a set by items.
 fn extended<T: DerOrd>(alloc: Global, items: Vec<T>, comparisons: &Cell<u32>) -> Result<u32, u8> {
     comparisons.set(0);
     let mut set = SetOfVec::new(alloc);
@@ -151,7 +152,7 @@ fn extended<T: DerOrd>(alloc: Global, items: Vec<T>, comparisons: &Cell<u32>) ->
     Ok(comparisons.get())
 }
 
-// How many comparisons make a set of a vector.
+// Returns the number of comparisons to make a set from a vector.
 fn sorted<T: DerOrd>(items: Vec<T>, comparisons: &Cell<u32>) -> Result<u32, u8> {
     comparisons.set(0);
     numbered(SetOfVec::try_from(items))?;
@@ -179,7 +180,7 @@ fn an_item_at_the_end_is_compared_once(rt: HostRuntime) -> Result<(), Fail> {
     Ok(())
 }
 
-// How often items are compared that are put into a set, in four ways.
+// The number of comparisons to put items into a set, in four ways.
 #[derive(Drop)]
 struct Counts {
     read: u32,
@@ -188,7 +189,7 @@ struct Counts {
     sorted: u32,
 }
 
-// What four ways to put 4000 numbers into a set compare.
+// Returns the number of comparisons to put 4000 numbers into a set, in four ways.
 fn four_ways(alloc: Global, factor: u32, step: u32) -> Result<Counts, Fail> {
     let comparisons = Cell::new(0);
     let items = series(alloc, &comparisons, factor, step)?;
@@ -207,7 +208,7 @@ fn four_ways(alloc: Global, factor: u32, step: u32) -> Result<Counts, Fail> {
     })
 }
 
-// The second item of a run that is read is asked of twice, since the run might fall.
+// A reading compares the second item of a run twice, because the run might fall.
 #[test]
 fn rising_items_are_compared_once_each(rt: HostRuntime) -> Result<(), Fail> {
     let counts = four_ways(rt.alloc(), 1, 1)?;
@@ -218,7 +219,7 @@ fn rising_items_are_compared_once_each(rt: HostRuntime) -> Result<(), Fail> {
     Ok(())
 }
 
-// 43905 is the sum of the numbers of digits of 0 to 3999.
+// 43905 is the sum of the numbers of binary digits of 0 to 3999.
 #[test]
 fn falling_items_are_compared_as_often_as_their_numbers_have_digits(
     rt: HostRuntime,
@@ -241,7 +242,7 @@ fn other_items_are_compared_about_as_often(rt: HostRuntime) -> Result<(), Fail> 
     Ok(())
 }
 
-// 4000 numbers that fall, each as often as it says.
+// Returns 4000 falling numbers, each repeated `times` times.
 fn falling_in_steps<'a>(
     alloc: Global,
     comparisons: &'a Cell<u32>,

@@ -12,8 +12,8 @@ use std::cmp::Ordering;
 use std::process::Abort;
 use std::test::Fail;
 
-// A number that counts how often its contents octets are compared. Numbers from 128 to 32767 have
-// two, so that each comparison of two encodings compares them.
+// A number that counts how many times its contents octets are compared. Numbers from 128 to 32767
+// have two contents octets, so each comparison of two encodings compares them.
 #[derive(Clone, Copy, Default)]
 struct CountedNumber<'a> {
     number: u16,
@@ -58,8 +58,8 @@ type FortySet<'a> = SetOf<CountedNumber<'a>, 40>;
 
 type FiveSet<'a> = SetOf<CountedNumber<'a>, 5>;
 
-// Inserts forty numbers, of which each is the one before it and a step on, over 41, which is prime;
-// and counts the comparisons of each.
+// Inserts forty numbers and checks the number of comparisons of each. Each number is the previous
+// one plus `step`, modulo 41, which is prime.
 fn inserts<'a>(rt: &impl Abort, comparisons: &'a Cell<u32>, step: u16) -> Result<(), u8> {
     let mut set: FortySet<'a> = SetOf::new();
     let mut value = 0;
@@ -73,7 +73,7 @@ fn inserts<'a>(rt: &impl Abort, comparisons: &'a Cell<u32>, step: u16) -> Result
     Ok(())
 }
 
-// Puts forty numbers at the end, of which each is compared with the last one alone.
+// Adds forty numbers at the end. Each is compared with the last one only.
 fn appends<'a>(rt: &impl Abort, comparisons: &'a Cell<u32>) -> Result<(), u8> {
     let mut set: FortySet<'a> = SetOf::new();
     for number in 200..240u16 {
@@ -85,7 +85,7 @@ fn appends<'a>(rt: &impl Abort, comparisons: &'a Cell<u32>) -> Result<(), u8> {
     Ok(())
 }
 
-// How often five numbers are compared when they are made a set.
+// Returns the number of comparisons to make a set from five numbers.
 fn sorted(numbers: [u16; 5]) -> Result<u32, u8> {
     let comparisons = Cell::new(0);
     let items = numbers.map(|number| with_count(number, &comparisons));

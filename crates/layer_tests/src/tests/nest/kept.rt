@@ -13,12 +13,12 @@ type KeptNumbers<'a> = Kept<'a, Vec<u16>>;
 
 type KeptSet<'a> = Kept<'a, SetOfVec<u16>>;
 
-/// What is shown of octets that are kept.
+/// Returns the octets that are kept.
 fn shown<'a, T>(kept: Kept<'a, T>) -> &'a [u8] {
     kept.as_bytes()
 }
 
-/// The value that is kept.
+/// Returns the value that is kept.
 fn value_of<'a, T: OneTag + Choice + DecodeValue<'a, SliceReader<'a>>>(
     alloc: Global,
     kept: Kept<'a, T>,

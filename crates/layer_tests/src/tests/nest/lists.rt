@@ -18,14 +18,14 @@ type AnyOrder<'a> = UnorderedSetRef<'a, u16>;
 
 type SomeNumbers<'a> = NonEmptyRef<ListRef<'a, u16>>;
 
-/// 8 and 7, of a SET in any order and of a SEQUENCE; 7 and 8, of a SET.
+/// 8 and 7 in a SET in any order, then in a SEQUENCE; 7 and 8 in a SET.
 const FALLING: [u8; 8] = [0x31, 0x06, 0x02, 0x01, 0x08, 0x02, 0x01, 0x07];
 
 const LIST: [u8; 8] = [0x30, 0x06, 0x02, 0x01, 0x08, 0x02, 0x01, 0x07];
 
 const RISING: [u8; 8] = [0x31, 0x06, 0x02, 0x01, 0x07, 0x02, 0x01, 0x08];
 
-// The number of the refusal of octets, or 0 where they are read.
+// Returns the number with which the octets are refused, or 0 if they are read.
 fn refusal<'a, T: FromDer<'a> + Drop>(alloc: Global, octets: &'a [u8]) -> u8 {
     match T::from_der(alloc, octets) {
         Ok(_value) => 0,
@@ -33,7 +33,7 @@ fn refusal<'a, T: FromDer<'a> + Drop>(alloc: Global, octets: &'a [u8]) -> u8 {
     }
 }
 
-// An item, or the number of its refusal, if there is one.
+// Returns an item, if there is one, or the number of its refusal.
 fn told(answer: Option<Result<u16, Error>>) -> Option<Result<u16, u8>> {
     match answer {
         Some(item) => Some(numbered(item)),
@@ -41,7 +41,7 @@ fn told(answer: Option<Result<u16, Error>>) -> Option<Result<u16, u8>> {
     }
 }
 
-// Where the refusal stands.
+// Returns the position of the refusal.
 fn position<'a, T: FromDer<'a> + Drop>(alloc: Global, octets: &'a [u8]) -> Option<Length> {
     match T::from_der(alloc, octets) {
         Ok(_value) => None,
@@ -125,7 +125,7 @@ fn sets_have_their_items(rt: HostRuntime) -> Result<(), Fail> {
     Ok(())
 }
 
-/// That a number is this one. Numbers with one encoding are the same.
+/// The test for equality with this number. Numbers with one encoding are equal.
 struct IsNumber(u16);
 
 impl ItemTest<u16> for IsNumber {
@@ -260,7 +260,8 @@ fn the_octets_decide_the_order(rt: HostRuntime) {
     }
 }
 
-// A list refuses with the number and at the position with which a vector of the same items does.
+// A list returns the error that a vector of the same items does, with the same number and
+// position.
 #[test]
 fn the_first_fault_of_an_item(rt: HostRuntime) {
     let alloc = rt.alloc();
@@ -309,7 +310,7 @@ fn a_set_of_lists(rt: HostRuntime) {
     );
 }
 
-// The tag of a type, as its value says.
+// Returns the tag of a type, as its value gives it.
 fn tag_of<T: OneTag + Tagged>(value: T) -> Tag {
     value.tag()
 }

@@ -7,7 +7,7 @@ use std::alloc::{AllocError, Global};
 use std::process::Abort;
 use std::test::Fail;
 
-// The numbers below 4000, falling.
+// Returns the numbers below 4000, falling.
 fn falling(alloc: Global) -> Result<Vec<u16>, AllocError> {
     let mut numbers = Vec::new(alloc);
     for i in 0..4000u16 {
@@ -16,7 +16,7 @@ fn falling(alloc: Global) -> Result<Vec<u16>, AllocError> {
     Ok(numbers)
 }
 
-// The number with which a borrowed set refuses the octets.
+// Returns the number with which a borrowed set refuses the octets.
 fn refusal(alloc: Global, octets: &[u8]) -> Option<u8> {
     match SetOfRef::<u16>::from_der(alloc, octets) {
         Ok(_) => None,
@@ -24,7 +24,7 @@ fn refusal(alloc: Global, octets: &[u8]) -> Option<u8> {
     }
 }
 
-// The item at each place is its place.
+// Asserts that the item at each index is the index.
 fn counts_up(rt: &impl Abort, items: &[u16]) {
     assert_eq!(rt; items.len(), 4000);
     for i in 0..items.len() {
@@ -32,7 +32,7 @@ fn counts_up(rt: &impl Abort, items: &[u16]) {
     }
 }
 
-// The octets of a set whose items are the numbers, as they stand.
+// Returns the octets of a set whose items are the numbers in the given order.
 fn set_octets(alloc: Global, numbers: &Vec<u16>) -> Result<Vec<u8>, u8> {
     let mut octets = numbered(numbers.to_der(alloc))?;
     if octets.is_empty() {
@@ -46,7 +46,7 @@ fn read_set(alloc: Global, octets: &[u8]) -> Result<SetOfVec<u16>, u8> {
     numbered(SetOfVec::from_der(alloc, octets))
 }
 
-// The numbers are sorted to the set, and written in order.
+// Asserts that the numbers are sorted to the set and written in order.
 fn sorts_to(
     rt: &impl Abort,
     alloc: Global,
@@ -72,7 +72,7 @@ fn falling_numbers_are_put_in_order(rt: HostRuntime) -> Result<(), Fail> {
     Ok(())
 }
 
-// A set that is read of the numbers is what sorting makes of them.
+// Asserts that a set read from the numbers' octets equals the sorted numbers.
 fn is_read_as_a_list(
     rt: &impl Abort,
     alloc: Global,
@@ -85,7 +85,8 @@ fn is_read_as_a_list(
     Ok(())
 }
 
-// A set of the numbers is what sorting makes of them, and so is one that is read.
+// Asserts that a set of the numbers equals the sorted numbers, and that a set that is read does
+// too.
 fn is_sorted_as_a_list(rt: &impl Abort, alloc: Global, numbers: Vec<u16>) -> Result<(), Fail> {
     let mut list = numbers.clone()?;
     list.sort()?;
@@ -95,7 +96,7 @@ fn is_sorted_as_a_list(rt: &impl Abort, alloc: Global, numbers: Vec<u16>) -> Res
     Ok(())
 }
 
-// 1000 numbers below 1000, of which each is the one before it and a step on.
+// Returns 1000 numbers below 1000. Each is the previous number plus `step`, modulo 1000.
 fn stepping(alloc: Global, step: u16) -> Result<Vec<u16>, AllocError> {
     let mut numbers = Vec::new(alloc);
     let mut number = 0;
@@ -106,7 +107,7 @@ fn stepping(alloc: Global, step: u16) -> Result<Vec<u16>, AllocError> {
     Ok(numbers)
 }
 
-// 1000 numbers that fall, each as often as it says.
+// Returns 1000 falling numbers, each repeated `times` times.
 fn falling_in_steps(alloc: Global, times: u16) -> Result<Vec<u16>, AllocError> {
     let mut numbers = Vec::new(alloc);
     for i in 0..1000u16 {
@@ -115,7 +116,7 @@ fn falling_in_steps(alloc: Global, times: u16) -> Result<Vec<u16>, AllocError> {
     Ok(numbers)
 }
 
-// So many numbers below 50, in no order.
+// Returns `count` numbers below 50, in no order.
 fn scattered(alloc: Global, count: u16) -> Result<Vec<u16>, AllocError> {
     let mut numbers = Vec::new(alloc);
     let mut state: u64 = 0x2319;

@@ -14,7 +14,7 @@ use std::test::Fail;
 /// `SET OF ANY`, borrowed.
 type AnyRefs<'a> = ItemSet<AnyRef<'a>, Values>;
 
-/// The same, owned.
+/// `SET OF ANY`, owned.
 type Anys = ItemSet<Any, Values>;
 
 // BOOLEAN TRUE, INTEGER 5, INTEGER 6, OCTET STRING of one octet 00, in order.
@@ -22,8 +22,8 @@ const RISING: [u8; 14] = [
     0x31, 0x0c, 0x01, 0x01, 0xff, 0x02, 0x01, 0x05, 0x02, 0x01, 0x06, 0x04, 0x01, 0x00,
 ];
 
-// The octets are read as a set of values of any type, owned and borrowed, that is written as the
-// others; or the numbers of the refusals.
+// Reads the octets as a set of values of any type, borrowed and owned, that is written as
+// `canonical`. Returns the numbers of the refusals.
 fn read_as(
     rt: &impl Abort,
     alloc: Global,
@@ -81,7 +81,7 @@ fn sets_of_any_values_refuse_other_octets(rt: HostRuntime) {
     }
 }
 
-// A set into which items were inserted, the greater one twice.
+// Returns a set after insertions, with the greater item inserted twice.
 fn inserted(rt: &impl Abort, alloc: Global, b: i32, c: i32) -> Result<ItemSet<i32>, Error> {
     let mut set = ItemSet::new(alloc);
     holds(rt, set.is_empty());
@@ -91,7 +91,7 @@ fn inserted(rt: &impl Abort, alloc: Global, b: i32, c: i32) -> Result<ItemSet<i3
     Ok(set)
 }
 
-// What a set of three items shows.
+// Asserts the items of a set of three items.
 fn is_shown(rt: &impl Abort, set: &ItemSet<i32>, b: i32, c: i32) {
     holds(rt, set.as_slice() == [b, c, c].as_slice());
     same(rt, set.len(), 3);
@@ -100,7 +100,7 @@ fn is_shown(rt: &impl Abort, set: &ItemSet<i32>, b: i32, c: i32) {
     same(rt, set.iter().len(), 3);
 }
 
-// The same set, with an item at its end and items at their places.
+// Returns the set after an item was added at its end and other items at their positions.
 fn extended(
     rt: &impl Abort,
     mut set: ItemSet<i32>,
@@ -115,7 +115,7 @@ fn extended(
     Ok(set)
 }
 
-// Sets that are made at once are the set of the same items.
+// Asserts that sets made from all items at once equal the set with the same items.
 fn are_made(
     rt: &impl Abort,
     alloc: Global,
@@ -134,13 +134,13 @@ fn are_made(
     Ok(())
 }
 
-// The items of a vector, in order.
+// Returns the items of a vector in order.
 fn sorted(items: Vec<i32>) -> Result<Vec<i32>, Error> {
     let set: ItemSet<i32> = ItemSet::try_from(items)?;
     Ok(set.into())
 }
 
-// The calls of a set, with items of which each is greater than those before it.
+// Tests the calls of a set. Each item is greater than the ones before it.
 fn calls(rt: &impl Abort, alloc: Global, a: i32, b: i32, c: i32) -> Result<(), Fail> {
     let set = numbered(inserted(rt, alloc, b, c))?;
     let items = Vec::from_array(alloc, [c, a])?;

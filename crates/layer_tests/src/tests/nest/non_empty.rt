@@ -19,18 +19,20 @@ type SomeOfSet = NonEmpty<SetOfVec<u16>>;
 /// `SET SIZE (1..MAX) OF ANY`
 type SomeValues<'a> = NonEmpty<ItemSet<AnyRef<'a>, Values>>;
 
-// The octets are read as a sequence of numbers that is written as they are; or the number of the
-// refusal.
+// Asserts that the octets are read as a sequence of numbers that is written as these octets, or
+// returns the number of the refusal.
 fn sequence_reads_back(rt: &impl Abort, alloc: Global, octets: &[u8]) -> Result<(), u8> {
     reads_as::<SomeNumbers>(rt, alloc, octets, octets)
 }
 
-// The same of a set of numbers, which is written as the other octets.
+// Asserts that the octets are read as a set of numbers that is written as `written`, or returns
+// the number of the refusal.
 fn set_reads_as(rt: &impl Abort, alloc: Global, octets: &[u8], written: &[u8]) -> Result<(), u8> {
     reads_as::<SomeOfSet>(rt, alloc, octets, written)
 }
 
-// The same of a set of values of any type.
+// Asserts that the octets are read as a set of values of any type that is written as `written`,
+// or returns the number of the refusal.
 fn values_read_as(rt: &impl Abort, alloc: Global, octets: &[u8], written: &[u8]) -> Result<(), u8> {
     reads_as::<SomeValues>(rt, alloc, octets, written)
 }
@@ -87,7 +89,7 @@ fn a_list_is_taken_where_it_has_an_item(rt: HostRuntime) -> Result<(), Fail> {
     Ok(())
 }
 
-// A reader that has failed is refused as such (17).
+// A reader that has failed refuses with its own number (17).
 #[test]
 fn a_failed_reader_reads_no_list(rt: HostRuntime) -> Result<(), Fail> {
     let octets = [0x31, 0x00];

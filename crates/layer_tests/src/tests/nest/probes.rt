@@ -14,7 +14,7 @@ use std::marker::Brand;
 use std::sync::ledger::{Blank, Ledger};
 use std::test::Fail;
 
-// A probe that shows how often it was asked.
+// A probe that counts how many times it was asked.
 #[derive(Drop)]
 struct Watched<'a, P> {
     probe: P,
@@ -34,7 +34,7 @@ impl<'a, P: Probe> Probe for Watched<'a, P> {
     }
 }
 
-// The place of an item, and how often its probe was asked.
+// Returns the index of an item, and how many times its probe was asked.
 fn watched_place<T: DerOrd, L: Ledger>(
     items: &[T],
     item: &T,
@@ -55,7 +55,7 @@ fn watched_place<T: DerOrd, L: Ledger>(
     Ok((place, asked.get()))
 }
 
-// The place of an item among so many that are equal to it, and how often its probe was asked.
+// Returns the index of an item among `count` equal ones, and how many times its probe was asked.
 fn place_among_equals<T: DerOrd + Copy>(
     alloc: Global,
     count: u16,

@@ -11,7 +11,7 @@ use std::test::Fail;
 /// The encoding of the identifier 2.5.4.3.
 const NAME: [u8; 5] = [0x06, 0x03, 0x55, 0x04, 0x03];
 
-/// The contents octets that are read, or the number of the fault.
+/// Returns the contents octets that are read, or the number of the error.
 fn read<'a>(alloc: Global, octets: &'a [u8]) -> Result<&'a [u8], u8> {
     match ObjectIdentifierRef::<'a, 3>::from_der(alloc, octets) {
         Ok(identifier) => Ok(identifier.as_bytes()),
@@ -19,7 +19,7 @@ fn read<'a>(alloc: Global, octets: &'a [u8]) -> Result<&'a [u8], u8> {
     }
 }
 
-/// The same of an identifier that is copied.
+/// Returns an owned identifier, or the number of the error.
 fn read_owned(alloc: Global, octets: &[u8]) -> Result<ObjectIdentifier<3>, u8> {
     match ObjectIdentifier::<3>::from_der(alloc, octets) {
         Ok(identifier) => Ok(identifier),
@@ -27,7 +27,7 @@ fn read_owned(alloc: Global, octets: &[u8]) -> Result<ObjectIdentifier<3>, u8> {
     }
 }
 
-/// The number of the fault of contents octets, or 0.
+/// Returns the number of the error in contents octets, or 0.
 fn refusal<'a>(octets: &'a [u8]) -> u8 {
     match ObjectIdentifierRef::<'a, 3>::from_bytes(octets) {
         Ok(_) => 0,
@@ -84,7 +84,7 @@ fn borrowed_identifiers_are_refused_as_owned_ones(rt: HostRuntime) {
     same(&rt, refusal(&[1, 2, 3]), 0);
 }
 
-/// Whether a copy of the identifier equals it, and is hashed alike.
+/// Returns whether a copy of the identifier is equal to it and has the same hash.
 fn is_copied(one: &ObjectIdentifierRef<'_, 3>) -> bool {
     match one.duplicate() {
         Ok(copy) => copy == *one && hashed(&copy) == hashed(one),

@@ -7,7 +7,8 @@ use der_tlv::{Error, ErrorKind, SliceReader, Tag};
 use std::alloc::Global;
 use std::test::Fail;
 
-/// What the contents octets are read as after a tag, or the number of the refusal.
+/// Returns the value that the contents octets are read as after a tag, or the number of the
+/// refusal.
 fn read<'a, T: TryFrom<AnyRef<'a>, Error = Error> + Drop>(
     tag: Tag,
     octets: &'a [u8],
@@ -101,7 +102,8 @@ fn unsigned_integers(rt: HostRuntime) {
     same(&rt, read::<u128>(Tag::Integer, &[0x01; 18]), Err(8));
 }
 
-/// What the contents octets of an INTEGER are decoded as, or the kind of the refusal.
+/// Returns the value that the contents octets of an INTEGER are decoded as, or the kind of the
+/// refusal.
 fn integer_as<'a, T: Choice + DecodeValue<'a, SliceReader<'a>>>(
     alloc: Global,
     octets: &'a [u8],

@@ -7,7 +7,7 @@ use der_tlv::{Error, Reader, Tag};
 use std::cmp::Ordering;
 use std::test::Fail;
 
-/// Whether a value and its copy are ordered as equals, by their encodings and by themselves.
+/// Returns whether a value and its copy compare as equal, by their encodings and by themselves.
 fn is_copied<T: Duplicate + DerOrd + Ord>(value: &T) -> bool {
     let Ok(copy) = value.duplicate() else {
         return false;

@@ -53,7 +53,7 @@ const PUBLIC_KEY: [u8; 140] = [
     0x1d, 0x28, 0xb8, 0x58, 0x3a, 0x67, 0x2b, 0x02, 0x03, 0x01, 0x00, 0x01,
 ];
 
-/// The tag of the next value, and its encoding, written again.
+/// Returns the tag of the next value, and its encoding, written again.
 fn next_part(alloc: Global, reader: &mut SliceReader<'_>) -> Result<(Tag, Vec<u8>), Error> {
     match AnyRef::decode(alloc, reader) {
         Ok(any) => Ok((any.tag(), any.to_der(alloc)?)),
@@ -61,8 +61,7 @@ fn next_part(alloc: Global, reader: &mut SliceReader<'_>) -> Result<(Tag, Vec<u8
     }
 }
 
-/// The values in a SEQUENCE, of which there are so many: the tag of each, and its encoding, written
-/// again.
+/// Returns the `count` values in a SEQUENCE: the tag of each, and its encoding, written again.
 fn parts(alloc: Global, encoding: &[u8], count: usize) -> Result<Vec<(Tag, Vec<u8>)>, Error> {
     let any = match AnyRef::try_from(encoding) {
         Ok(any) => any,
@@ -80,7 +79,7 @@ fn parts(alloc: Global, encoding: &[u8], count: usize) -> Result<Vec<(Tag, Vec<u
     })
 }
 
-/// The encoding of one of the values; no octets where there are fewer.
+/// Returns the encoding of one of the values, or no octets if there are fewer values.
 fn octets_of(parts: &[(Tag, Vec<u8>)], number: usize) -> &[u8] {
     match parts.get(number) {
         Some(part) => part.1.as_slice(),
@@ -88,7 +87,7 @@ fn octets_of(parts: &[(Tag, Vec<u8>)], number: usize) -> &[u8] {
     }
 }
 
-/// The tag of one of the values.
+/// Returns the tag of one of the values.
 fn tag_of(parts: &[(Tag, Vec<u8>)], number: usize) -> Option<Tag> {
     match parts.get(number) {
         Some(part) => Some(part.0),
@@ -165,7 +164,7 @@ fn the_algorithm_of_a_certificate(rt: HostRuntime) -> Result<(), Fail> {
     Ok(())
 }
 
-/// The BOOLEAN that the octets encode, or the number of the refusal.
+/// Returns the BOOLEAN that the octets encode, or the number of the refusal.
 fn boolean(octets: &[u8]) -> Result<bool, u8> {
     let any = match AnyRef::try_from(octets) {
         Ok(any) => any,
@@ -177,7 +176,7 @@ fn boolean(octets: &[u8]) -> Result<bool, u8> {
     }
 }
 
-/// The values in the SEQUENCE that an OCTET STRING holds.
+/// Returns the values of the SEQUENCE in an OCTET STRING.
 fn held_parts(alloc: Global, octets: &[u8], count: usize) -> Result<Vec<(Tag, Vec<u8>)>, Error> {
     match OctetStringRef::from_der(alloc, octets) {
         Ok(value) => parts(alloc, value.as_bytes(), count),

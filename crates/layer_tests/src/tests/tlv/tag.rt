@@ -6,7 +6,7 @@ use der_tlv::{
 };
 use std::cmp::Ordering;
 
-/// A constructed context-specific tag.
+/// Returns a constructed context-specific tag.
 fn context(number: u32) -> Tag {
     Tag::ContextSpecific {
         constructed: true,
@@ -14,7 +14,7 @@ fn context(number: u32) -> Tag {
     }
 }
 
-/// The tag at the beginning of the octets.
+/// Returns the tag at the start of the octets.
 fn decoded(octets: &[u8]) -> Result<Tag, ErrorKind> {
     match SliceReader::new(octets) {
         Ok(mut reader) => known(Tag::decode(&mut reader)),
@@ -114,8 +114,8 @@ fn missing_octets(rt: HostRuntime) {
     same(&rt, decoded(&[0xbf, 0x81]), missing(3));
 }
 
-/// Whether these are the identifier octets of a tag, which the length octet of no contents octets
-/// follows.
+/// Returns whether these are the identifier octets of a tag, if the length octet for no contents
+/// octets follows.
 fn identifier_is(tag: Tag, octets: &[u8]) -> bool {
     let mut buffer = [0xff; 7];
     let mut writer = SliceWriter::new(&mut buffer);
@@ -196,7 +196,7 @@ fn peeks_that_match(rt: HostRuntime) {
     }
 }
 
-/// Whether the next tag has this class and this number.
+/// Returns whether the next tag has this class and this number.
 fn next_has<'a>(
     reader: &mut SliceReader<'a>,
     class: Class,
@@ -208,7 +208,7 @@ fn next_has<'a>(
     }
 }
 
-/// The tag, or the kind of the error.
+/// Returns the tag, or the kind of the error.
 fn known(tag: Result<Tag, Error>) -> Result<Tag, ErrorKind> {
     match tag {
         Ok(tag) => Ok(tag),

@@ -12,7 +12,7 @@ use der_tlv::Tag;
 use std::cmp::Ordering;
 use std::test::Fail;
 
-// `Test User 1` after a tag.
+// Returns `Test User 1` after a tag.
 fn test_user(tag: u8) -> [u8; 13] {
     [
         tag, 0x0b, 0x54, 0x65, 0x73, 0x74, 0x20, 0x55, 0x73, 0x65, 0x72, 0x20, 0x31,

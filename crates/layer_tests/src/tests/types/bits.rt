@@ -11,7 +11,8 @@ use std::test::Fail;
 /// The encoding of the bits 011011100101110111.
 const EIGHTEEN_BITS: [u8; 6] = [0x03, 0x04, 0x06, 0x6e, 0x5d, 0xc0];
 
-/// The number of the error with which these are refused as a borrowed bit string, or 0.
+/// Returns the number of the error with which these octets are refused as a borrowed bit string,
+/// or 0.
 fn refused_as_new(unused_bits: u8, octets: &[u8]) -> u8 {
     match BitStringRef::new(unused_bits, octets) {
         Ok(_) => 0,

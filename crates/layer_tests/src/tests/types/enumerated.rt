@@ -13,12 +13,14 @@ type Reason = Enumerated<CrlReason>;
 
 type NamedVersion = Enumerated<Version>;
 
-/// What octets are written as again that are read as a reason, or the number of the refusal.
+/// Reads octets as a reason and writes it again. Returns the octets, or the number of the
+/// refusal.
 fn reason_again(alloc: Global, octets: &[u8]) -> Result<Vec<u8>, u8> {
     numbered(round_trip::<Reason>(alloc, octets))
 }
 
-/// The same of a version.
+/// Reads octets as a version and writes it again. Returns the octets, or the number of the
+/// refusal.
 fn version_again(alloc: Global, octets: &[u8]) -> Result<Vec<u8>, u8> {
     numbered(round_trip::<NamedVersion>(alloc, octets))
 }

@@ -18,7 +18,7 @@ const USAGES: [&[u8]; 4] = [
     &[0x03, 0x01, 0x00],
 ];
 
-/// What is refused, and by which number.
+/// The octets that are refused, and the number of each refusal.
 const REFUSED: [(&[u8], u8); 10] = [
     // a bit 0 at the end
     (&[0x03, 0x02, 0x00, 0xa0], 8),
@@ -34,8 +34,8 @@ const REFUSED: [(&[u8], u8); 10] = [
     (&[0x04, 0x02, 0x05, 0xa0], 4),
 ];
 
-/// The octets are read as named bits that are written as them, measured, copied and compared; or the
-/// number of the refusal.
+/// Asserts that the octets are read as named bits that are written as these octets, measured,
+/// copied and compared, or returns the number of the refusal.
 fn named_bits_read_back(rt: &impl Abort, alloc: Global, octets: &[u8]) -> Result<(), u8> {
     reads_back_in_order::<NamedBitsRef<'_>>(rt, alloc, octets)
 }
@@ -71,7 +71,7 @@ fn bits_are_asked_by_name(rt: HostRuntime) {
     same(&rt, usage.as_bit_string_ref().unused_bits(), 1);
 }
 
-/// The encoding of these octets' bits without those at the end that are 0.
+/// Returns the encoding of these octets' bits without the zero bits at the end.
 fn trimmed(alloc: Global, octets: &[u8]) -> Result<Vec<u8>, u8> {
     match BitStringRef::from_bytes(octets) {
         Ok(string) => numbered(NamedBitsRef::new(string).to_der(alloc)),

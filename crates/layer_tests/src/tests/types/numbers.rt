@@ -9,7 +9,7 @@ use std::cmp::Ordering;
 use std::process::Abort;
 use std::test::Fail;
 
-/// The kind of an error, if this is one.
+/// Returns the kind of an error, if the result is one.
 fn kind_of<T: Drop>(answer: Result<T, Error>) -> Option<ErrorKind> {
     match answer {
         Ok(_value) => None,
@@ -27,7 +27,7 @@ fn integers_are_written_back(rt: HostRuntime) {
     holds(&rt, stays::<Uint>(alloc, &octets));
 }
 
-/// The octets of the integer that some octets say, or none where they are refused.
+/// Returns the octets of the integer in some octets, or none if they are refused.
 fn integer(octets: &[u8]) -> &[u8] {
     match IntRef::new(octets) {
         Ok(integer) => integer.as_bytes(),
@@ -35,7 +35,7 @@ fn integer(octets: &[u8]) -> &[u8] {
     }
 }
 
-/// The octets of the number that some octets say, or none where they are refused.
+/// Returns the octets of the number in some octets, or none if they are refused.
 fn number(octets: &[u8]) -> &[u8] {
     match UintRef::new(octets) {
         Ok(number) => number.as_bytes(),
@@ -123,7 +123,7 @@ fn borrowed_and_owned_agree(rt: HostRuntime) -> Result<(), Fail> {
     Ok(())
 }
 
-/// Whether an integer was made that has these octets.
+/// Returns whether the result is an integer with these octets.
 fn is_integer(made: Result<Int, Error>, octets: &[u8]) -> bool {
     match made {
         Ok(integer) => integer.as_bytes() == octets,
@@ -175,7 +175,7 @@ fn signed_machine_integers_are_taken(rt: HostRuntime) {
     );
 }
 
-/// Whether a number was made that has these octets.
+/// Returns whether the result is a number with these octets.
 fn is_number(made: Result<Uint, Error>, octets: &[u8]) -> bool {
     match made {
         Ok(number) => number.as_bytes() == octets,
@@ -282,7 +282,7 @@ fn any_value_is_taken_as_an_integer(rt: HostRuntime) -> Result<(), Fail> {
     Ok(())
 }
 
-/// The order of two numbers is that of their encodings.
+/// Asserts that the order of two numbers is the order of their encodings.
 fn numbers_are_ordered(rt: &impl Abort, a: &Uint, b: &Uint, alloc: Global) -> Result<(), Error> {
     let expected = a.to_der(alloc)?.as_slice().cmp(b.to_der(alloc)?.as_slice());
     same(rt, a.der_cmp(b)?, expected);
@@ -304,7 +304,7 @@ fn numbers_are_ordered_by_encodings(rt: HostRuntime) -> Result<(), Fail> {
     Ok(())
 }
 
-/// The order of two integers is that of their encodings.
+/// Asserts that the order of two integers is the order of their encodings.
 fn integers_are_ordered(rt: &impl Abort, a: &Int, b: &Int, alloc: Global) -> Result<(), Error> {
     let expected = a.to_der(alloc)?.as_slice().cmp(b.to_der(alloc)?.as_slice());
     same(rt, a.der_cmp(b)?, expected);

@@ -13,13 +13,13 @@ use std::time::Duration;
 /// The encoding of 1991-05-06T23:45:40Z as a GeneralizedTime.
 const GENERALIZED: &[u8; 17] = b"\x18\x0f19910506234540Z";
 
-/// The same as a UTCTime.
+/// The encoding of 1991-05-06T23:45:40Z as a UTCTime.
 const UTC: &[u8; 15] = b"\x17\x0d910506234540Z";
 
 /// The seconds of the last time.
 const LAST: u64 = 253_402_300_799;
 
-/// The number of the error with which these fields are refused, or 0.
+/// Returns the number of the error with which these fields are refused, or 0.
 fn refused_as_new(year: u16, date: (u8, u8), clock: (u8, u8, u8)) -> u8 {
     match DateTime::new(year, date.0, date.1, clock.0, clock.1, clock.2) {
         Ok(_) => 0,
@@ -27,7 +27,7 @@ fn refused_as_new(year: u16, date: (u8, u8), clock: (u8, u8, u8)) -> u8 {
     }
 }
 
-/// The number of the error with which a text is refused, or 0.
+/// Returns the number of the error with which a text is refused, or 0.
 fn refused_as_text(text: &str) -> u8 {
     match DateTime::from_str(text) {
         Ok(_) => 0,
@@ -35,7 +35,7 @@ fn refused_as_text(text: &str) -> u8 {
     }
 }
 
-/// The order that a comparison answered, if it answered one.
+/// Returns the order that a comparison returns, if it returns one.
 fn order_of(answer: Result<Ordering, Error>) -> Option<Ordering> {
     match answer {
         Ok(order) => Some(order),
@@ -43,7 +43,7 @@ fn order_of(answer: Result<Ordering, Error>) -> Option<Ordering> {
     }
 }
 
-/// The seconds of a text, or 0.
+/// Returns the seconds of a text, or 0.
 fn seconds_of_text(text: &str) -> u64 {
     match DateTime::from_str(text) {
         Ok(time) => time.unix_duration().as_secs(),

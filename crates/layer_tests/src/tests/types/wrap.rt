@@ -39,7 +39,7 @@ fn reads_explicit_tagging(rt: HostRuntime) -> Result<(), Fail> {
     Ok(())
 }
 
-// The value of a field, and where the reader stands.
+// Returns the value of a field and the reader's position.
 fn explicit(alloc: Global, number: u32, octets: &[u8]) -> Result<(Option<u8>, u32), u8> {
     let mut reader = match SliceReader::new(octets) {
         Ok(reader) => reader,
@@ -72,7 +72,7 @@ fn reads_explicit_fields(rt: HostRuntime) {
     same(&rt, explicit(alloc, 0, &[0x1f]), Err(2));
 }
 
-// The octets of a field with implicit tagging, and where the reader stands.
+// Returns the octets of a field with implicit tagging and the reader's position.
 fn implicit<'a>(
     alloc: Global,
     number: u32,
@@ -196,7 +196,7 @@ fn reads_anys(rt: HostRuntime) -> Result<(), Fail> {
     Ok(())
 }
 
-// The encoding of a value, through the bound.
+// Returns the encoding of a value, through the bound.
 fn encoding<T: Encode>(alloc: Global, value: &T) -> Result<Vec<u8>, u8> {
     numbered(value.to_der(alloc))
 }

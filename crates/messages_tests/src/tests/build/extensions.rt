@@ -8,7 +8,7 @@ use std::alloc::Global;
 use std::process::Abort;
 use std::test::Fail;
 
-// The octets of an extension.
+// Returns the octets of an extension.
 fn extension_of(
     alloc: Global,
     identifier: &[u8],

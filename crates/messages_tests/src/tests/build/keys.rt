@@ -8,7 +8,7 @@ use std::alloc::Global;
 use std::process::Abort;
 use std::test::Fail;
 
-// The key of Ed25519 with these octets.
+// Returns the Ed25519 key with these octets.
 fn ed25519_of(alloc: Global, key: &[u8]) -> Result<Vec<u8>, u8> {
     match ed25519_key(key) {
         Ok(info) => numbered(info.to_der(alloc)),
@@ -16,7 +16,7 @@ fn ed25519_of(alloc: Global, key: &[u8]) -> Result<Vec<u8>, u8> {
     }
 }
 
-// The key of P-256 with this point.
+// Returns the P-256 key with this point.
 fn p256_of(alloc: Global, point: &[u8]) -> Result<Vec<u8>, u8> {
     match p256_key(point) {
         Ok(info) => numbered(info.to_der(alloc)),
@@ -99,7 +99,7 @@ fn points_of_another_form_are_refused(rt: HostRuntime) -> Result<(), Fail> {
     Ok(())
 }
 
-// The key of RSA with this modulus and exponent.
+// Returns the RSA key with this modulus and exponent.
 fn rsa_of(alloc: Global, modulus: &[u8], exponent: &[u8]) -> Result<Vec<u8>, u8> {
     match rsa_public_key(alloc, modulus, exponent) {
         Ok(octets) => match rsa_key(octets.as_slice()) {

@@ -9,7 +9,7 @@ use std::alloc::Global;
 use std::process::Abort;
 use std::test::Fail;
 
-// The octets of an attribute whose type has these contents octets, in hex.
+// Returns the octets of an attribute whose type has these contents octets, in hex.
 fn attribute_of(alloc: Global, type_: &str, text: &str) -> Result<Vec<u8>, u8> {
     let identifier = wanted(alloc, type_)?;
     let type_ = identifier.as_slice();
@@ -128,7 +128,7 @@ fn attributes_are_refused(rt: HostRuntime) -> Result<(), Fail> {
     Ok(())
 }
 
-// The octets of the name that these are read as.
+// Returns the octets of the name that these octets are read as.
 fn name_again(alloc: Global, octets: &[u8]) -> Result<Vec<u8>, u8> {
     match Name::from_der(alloc, octets) {
         Ok(name) => numbered(name.to_der(alloc)),
@@ -136,7 +136,7 @@ fn name_again(alloc: Global, octets: &[u8]) -> Result<Vec<u8>, u8> {
     }
 }
 
-// The octets of a name of a country and a commonName, read and written again.
+// Returns the octets of a name with a country and a commonName, read and written again.
 fn name_of(alloc: Global, country: &str, common_name: &str) -> Result<Vec<u8>, u8> {
     let attributes = [
         TextAttribute {

@@ -7,7 +7,7 @@ use der_pkix::certificate::Extensions;
 use std::alloc::Global;
 use std::test::Fail;
 
-// The octets of the attributes of a request for the extensions with these.
+// Returns the octets of the attributes of a request for the extensions in these octets.
 fn asked_for(alloc: Global, octets: &[u8]) -> Result<Vec<u8>, u8> {
     match Extensions::from_der(alloc, octets) {
         Ok(extensions) => numbered(extension_request(alloc, &extensions)),

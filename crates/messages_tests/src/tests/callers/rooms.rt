@@ -12,7 +12,7 @@ use std::alloc::Global;
 use std::process::Abort;
 use std::test::Fail;
 
-// A writer that takes so many octets in all, a beginning of a write too, and then refuses (10).
+// A writer that accepts `left` octets in all, even the start of a write, and then refuses (10).
 #[derive(Drop)]
 struct Bounded {
     octets: Vec<u8>,
@@ -44,7 +44,8 @@ impl Writer for Bounded {
     }
 }
 
-// A writer that takes so many octets holds a beginning of the encoding, if it refuses it.
+// Asserts that a writer that accepts `left` octets refuses the value and contains a prefix of its
+// encoding.
 fn stops_after<T: Encode>(rt: &impl Abort, alloc: Global, value: &T, left: usize, encoding: &[u8]) {
     let mut writer = Bounded {
         octets: Vec::new(alloc),
@@ -57,8 +58,8 @@ fn stops_after<T: Encode>(rt: &impl Abort, alloc: Global, value: &T, left: usize
     same_in(rt, &left, encoding.starts_with(&writer.octets), true);
 }
 
-// A buffer that is too short is refused and left as it was, and a writer into it is refused from then
-// on.
+// Asserts that a buffer that is too short is refused and left unchanged, and that a writer into
+// it refuses from then on.
 fn finds_no_room<T: Encode>(rt: &impl Abort, value: &T, buffer: &mut [u8]) {
     buffer.fill(0x5a);
     same(rt, numbered(value.encode_to_slice(buffer)).err(), Some(10));
@@ -69,7 +70,8 @@ fn finds_no_room<T: Encode>(rt: &impl Abort, value: &T, buffer: &mut [u8]) {
     same(rt, numbered(writer.write(&[])).err(), Some(17));
 }
 
-// Refuses a value at each number of octets that is too few, and writes it where there are enough.
+// Asserts that a value is refused for each number of octets below its length, and written into a
+// buffer of its length.
 fn needs_room<T: Encode>(
     rt: &impl Abort,
     alloc: Global,

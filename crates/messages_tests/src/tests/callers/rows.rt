@@ -9,7 +9,7 @@ use der_asn1_types::{DerOrd, Encode, EncodingRules, SliceReader, Tag, TagMode, T
 use std::alloc::Global;
 use std::test::Fail;
 
-// The encoding of a value, through the bound.
+// Returns the encoding of a value, through the bound.
 fn encoding<T: Encode>(alloc: Global, value: &T) -> Result<Vec<u8>, u8> {
     numbered(value.to_der(alloc))
 }
@@ -26,7 +26,8 @@ fn a_tagged_set_of_two_insertions(rt: HostRuntime) -> Result<(), Fail> {
     Ok(())
 }
 
-// A set of the first item, and then of the others, one after another: what refuses one, and what stands.
+// Extends a set of the first item by the others. Returns the number of the refusal, if there is
+// one, and the encoding of the set.
 fn extended<T: DerOrd + Encode + Tagged>(
     alloc: Global,
     first: T,
@@ -38,7 +39,8 @@ fn extended<T: DerOrd + Encode + Tagged>(
     Ok((refused, encoding(alloc, &set)?))
 }
 
-// The same, each inserted by itself, up to the first that is refused.
+// Inserts the others one by one into a set of the first item, up to the first refusal. Returns
+// its number, if there is one, and the encoding of the set.
 fn inserted<T: DerOrd + Encode + Tagged>(
     alloc: Global,
     first: T,
@@ -55,15 +57,15 @@ fn inserted<T: DerOrd + Encode + Tagged>(
     Ok((None, encoding(alloc, &set)?))
 }
 
-// What refuses a set of the items.
+// Returns the number with which a set of the items is refused, if it is.
 fn collected<T: DerOrd>(alloc: Global, items: Vec<T>) -> Option<u8> {
     numbered(SetOfVec::from_iter(alloc, items)).err()
 }
 
-// A list with a tag of its own.
+// A list with its own tag.
 type TaggedList = ContextSpecific<Vec<AnyRef<'static>>>;
 
-// A list of this value, or of none.
+// Returns a list of this value, or of none.
 fn list(
     alloc: Global,
     number: u32,
@@ -77,7 +79,8 @@ fn list(
     Ok(tagged(number, mode, items))
 }
 
-// An implicit and an explicit value with the octets A1 05 30 03 02 01 05, which are not compared.
+// Returns an implicit and an explicit value with the octets A1 05 30 03 02 01 05, which are not
+// compared.
 fn two_modes(alloc: Global) -> Result<(TaggedList, TaggedList), Fail> {
     let Ok(sequence) = AnyRef::new(Tag::Sequence, &[0x02, 0x01, 0x05]) else {
         return Err(Fail::from("refused"));
@@ -140,7 +143,8 @@ fn identifier_octets_decide_and_not_numbers(rt: HostRuntime) -> Result<(), Fail>
     Ok(())
 }
 
-// The octets of a bit string with implicit tagging and the number 1, if it has no unused bits.
+// Returns the octets of a bit string with implicit tagging and the number 1, if it has no unused
+// bits.
 fn implicit_bits<'a>(
     alloc: Global,
     octets: &'a [u8],
@@ -225,7 +229,7 @@ fn a_borrowed_set_of_texts_with_implicit_tagging(rt: HostRuntime) -> Result<(), 
     Ok(())
 }
 
-// The number of texts in a set with implicit tagging and the number 2.
+// Returns the number of texts in a set with implicit tagging and the number 2.
 fn implicit_texts(alloc: Global, octets: &[u8]) -> Result<Option<usize>, u8> {
     let mut reader = match SliceReader::new(octets) {
         Ok(reader) => reader,

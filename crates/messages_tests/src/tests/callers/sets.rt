@@ -11,7 +11,7 @@ use std::cmp::Ordering;
 use std::process::Abort;
 use std::test::Fail;
 
-// A copy of the value is equal to it, and stands where it does.
+// Asserts that a copy of the value is equal to it, and compares as equal.
 fn is_copied<T: Duplicate + EncodingEq + DerOrd>(rt: &impl Abort, value: &T) -> Result<(), u8> {
     let copy = numbered(value.duplicate())?;
     holds(rt, copy == *value);
@@ -19,7 +19,8 @@ fn is_copied<T: Duplicate + EncodingEq + DerOrd>(rt: &impl Abort, value: &T) -> 
     Ok(())
 }
 
-// The octets are read as three names of keys, which are written as the others, and copied.
+// Asserts that the octets are read as three names of keys, which are written as `ordered`, and
+// copied.
 fn names_read_as(rt: &impl Abort, alloc: Global, octets: &[u8], ordered: &[u8]) -> Result<(), u8> {
     let names = numbered(read_key_names(alloc, octets))?;
     same(rt, names.len(), 3);
@@ -28,7 +29,7 @@ fn names_read_as(rt: &impl Abort, alloc: Global, octets: &[u8], ordered: &[u8]) 
     is_copied(rt, &names)
 }
 
-// The number with which octets are refused as names of keys.
+// Returns the number with which octets are refused as names of keys.
 fn refused(alloc: Global, octets: &[u8]) -> Option<u8> {
     numbered(read_key_names(alloc, octets)).err()
 }

@@ -19,7 +19,8 @@ enum Kind {
     Other,
 }
 
-// The kind of a recipient, and how many octets its key has, or how many keys agree.
+// Returns the kind of a recipient, and the number of octets of its key, or the number of agreed
+// keys.
 fn recipient_told(alloc: Global, octets: &[u8]) -> Result<(Kind, usize), u8> {
     match RecipientInfo::from_der(alloc, octets) {
         Ok(RecipientInfo::Ktri(info)) => {
@@ -40,7 +41,8 @@ fn recipient_told(alloc: Global, octets: &[u8]) -> Result<(Kind, usize), u8> {
     }
 }
 
-// The year, the accuracy, whether stamps are in order, and whether there are a name and extensions.
+// Returns the year, the accuracy, whether stamps are in order, and whether a name and extensions
+// are present.
 fn info_told(
     alloc: Global,
     octets: &[u8],

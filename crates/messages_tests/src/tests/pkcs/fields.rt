@@ -10,8 +10,8 @@ use std::alloc::Global;
 use std::process::Abort;
 use std::test::Fail;
 
-// How many octets the salt has if it is written out, the iterations, the length of the key, and whether
-// there is a function.
+// Returns the number of octets of the salt if it is specified, the iterations, the length of the
+// key, and whether a function is present.
 fn derivation_told(
     alloc: Global,
     octets: &[u8],
@@ -34,7 +34,7 @@ fn derivation_told(
     }
 }
 
-// Whether there are a hash and a mask, the length of the salt, and the trailer.
+// Returns whether a hash and a mask are present, the length of the salt, and the trailer.
 fn pss_told(alloc: Global, octets: &[u8]) -> Result<(bool, bool, Option<u32>, u8), u8> {
     match RsassaPssParams::from_der(alloc, octets) {
         Ok(parameters) => Ok((
@@ -82,7 +82,7 @@ fn parameters_of_rsa_have_defaults(rt: HostRuntime) -> Result<(), Fail> {
     Ok(())
 }
 
-// The version of a file, and of its digest the octets and the iterations.
+// Returns the version of a file, and the number of octets and the iterations of its digest.
 fn file_told(alloc: Global, octets: &[u8]) -> Result<(u8, Option<(usize, Option<u32>)>), u8> {
     match Pfx::from_der(alloc, octets) {
         Ok(file) => {
@@ -96,7 +96,7 @@ fn file_told(alloc: Global, octets: &[u8]) -> Result<(u8, Option<(usize, Option<
     }
 }
 
-// How many bags stand in the value of a bag, if that is contents of bags itself.
+// Returns the number of bags in the value of a bag, if the value is contents of bags itself.
 fn bags_within(alloc: Global, bag: &SafeBag<'_>) -> usize {
     let value = *bag.bag_value();
     match value.decode_as::<SafeContents>(alloc) {
@@ -105,7 +105,7 @@ fn bags_within(alloc: Global, bag: &SafeBag<'_>) -> usize {
     }
 }
 
-// How many bags there are.
+// Returns the number of bags.
 fn count_of(alloc: Global, contents: &SafeContents<'_>) -> usize {
     match contents.items().count(alloc) {
         Ok(count) => count,
@@ -113,7 +113,7 @@ fn count_of(alloc: Global, contents: &SafeContents<'_>) -> usize {
     }
 }
 
-// Of the first bag, whether it has attributes, and how many bags stand in it.
+// Returns whether the first bag has attributes, and the number of bags in it.
 fn first_told(alloc: Global, contents: &SafeContents<'_>) -> (bool, usize) {
     match contents.items().get(alloc, 0) {
         Some(Ok(bag)) => (bag.bag_attributes().is_some(), bags_within(alloc, &bag)),
@@ -121,7 +121,7 @@ fn first_told(alloc: Global, contents: &SafeContents<'_>) -> (bool, usize) {
     }
 }
 
-// How many bags there are; of the first, whether it has attributes, and how many bags stand in it.
+// Returns the number of bags, whether the first one has attributes, and the number of bags in it.
 fn bags_told(alloc: Global, octets: &[u8]) -> Result<(usize, bool, usize), u8> {
     match SafeContents::from_der(alloc, octets) {
         Ok(contents) => {

@@ -9,7 +9,7 @@ use std::alloc::Global;
 use std::process::Abort;
 use std::test::Fail;
 
-// The contents octets of the method, and those of the place, which is a resource.
+// Returns the contents octets of the method and of the location, which is a URI.
 fn access_told(alloc: Global, access: &AccessDescription) -> Result<(Vec<u8>, Vec<u8>), u8> {
     let method = access.access_method();
     match access.access_location() {
@@ -22,7 +22,7 @@ fn access_told(alloc: Global, access: &AccessDescription) -> Result<(Vec<u8>, Ve
     }
 }
 
-// How many there are, and what the last one says.
+// Returns the number of descriptions, and the method and the location of the last one.
 fn authority_access_told(alloc: Global, octets: &[u8]) -> Result<(usize, (Vec<u8>, Vec<u8>)), u8> {
     match AuthorityInfoAccessSyntax::from_der(alloc, octets) {
         Ok(accesses) => {
@@ -37,7 +37,8 @@ fn authority_access_told(alloc: Global, octets: &[u8]) -> Result<(usize, (Vec<u8
     }
 }
 
-// The same of a subject.
+// Returns the number of descriptions of a subject, and the method and the location of the last
+// one.
 fn subject_access_told(alloc: Global, octets: &[u8]) -> Result<(usize, (Vec<u8>, Vec<u8>)), u8> {
     match SubjectInfoAccessSyntax::from_der(alloc, octets) {
         Ok(accesses) => {

@@ -8,14 +8,14 @@ use std::alloc::Global;
 use std::process::Abort;
 use std::test::Fail;
 
-// The contents octets of the attribute's type, and how many values it has.
+// Returns the contents octets of the attribute's type, and the number of its values.
 fn attribute_told(alloc: Global, attribute: &Attribute) -> Result<(Vec<u8>, usize), u8> {
     let kind = copied(alloc, attribute.type_().as_bytes())?;
     let count = numbered(attribute.values().count(alloc))?;
     Ok((kind, count))
 }
 
-// How many attributes there are, and what the last one says.
+// Returns the number of attributes, and the type and the number of values of the last one.
 fn attributes_told(alloc: Global, octets: &[u8]) -> Result<(usize, (Vec<u8>, usize)), u8> {
     match SubjectDirectoryAttributes::from_der(alloc, octets) {
         Ok(attributes) => {

@@ -9,12 +9,14 @@ use std::cmp::Ordering;
 use std::process::Abort;
 use std::test::Fail;
 
-// Whether two values are equal, of a type of which the law says that they are where their encodings are.
+// Returns whether two values are equal. A law of the type says that they are if their encodings
+// are.
 fn are_equal<T: EncodingEq>(first: &T, second: &T) -> bool {
     first == second
 }
 
-// Whether two names of any kind are equal, and whether a copy of the first is equal to it.
+// Returns whether two names of any kind are equal, and whether a copy of the first is equal to
+// it.
 fn names_compared(alloc: Global, first: &[u8], second: &[u8]) -> Result<(bool, bool), u8> {
     match (
         GeneralName::from_der(alloc, first),
@@ -26,17 +28,17 @@ fn names_compared(alloc: Global, first: &[u8], second: &[u8]) -> Result<(bool, b
     }
 }
 
-// The order of two names of any kind, and whether they are equal.
+// Returns the order of two names of any kind, and whether they are equal.
 fn names_ordered(alloc: Global, first: &[u8], second: &[u8]) -> Result<(Ordering, bool), u8> {
     read_and_compared::<GeneralName>(alloc, first, second)
 }
 
-// The same of two names of other forms.
+// Returns the order of two names of other forms, and whether they are equal.
 fn others_compared(alloc: Global, first: &[u8], second: &[u8]) -> Result<(Ordering, bool), u8> {
     read_and_compared::<AnotherName>(alloc, first, second)
 }
 
-// Whether two lists of such names are equal.
+// Returns whether two lists of such names are equal.
 fn lists_compared(alloc: Global, first: &[u8], second: &[u8]) -> Result<bool, u8> {
     match (
         SubjectAltName::from_der(alloc, first),
@@ -48,7 +50,7 @@ fn lists_compared(alloc: Global, first: &[u8], second: &[u8]) -> Result<bool, u8
     }
 }
 
-// Whether two values that name an authority's key are equal.
+// Returns whether two values that identify an authority's key are equal.
 fn authorities_compared(alloc: Global, first: &[u8], second: &[u8]) -> Result<bool, u8> {
     match (
         AuthorityKeyIdentifier::from_der(alloc, first),

@@ -7,7 +7,7 @@ use std::alloc::Global;
 use std::process::Abort;
 use std::test::Fail;
 
-// Whether a subject is an authority, and the octets of how long a path may be.
+// Returns whether a subject is an authority, and the octets of the maximal length of a path.
 fn constraints_told(alloc: Global, octets: &[u8]) -> Result<(bool, Option<Vec<u8>>), u8> {
     match BasicConstraints::from_der(alloc, octets) {
         Ok(constraints) => {
@@ -21,7 +21,7 @@ fn constraints_told(alloc: Global, octets: &[u8]) -> Result<(bool, Option<Vec<u8
     }
 }
 
-// How many subtrees are permitted, and how many are excluded.
+// Returns the numbers of permitted and of excluded subtrees.
 fn subtrees_told(alloc: Global, octets: &[u8]) -> Result<(Option<usize>, Option<usize>), u8> {
     match NameConstraints::from_der(alloc, octets) {
         Ok(constraints) => {
@@ -39,7 +39,7 @@ fn subtrees_told(alloc: Global, octets: &[u8]) -> Result<(Option<usize>, Option<
     }
 }
 
-// The bounds of the first subtree that is permitted.
+// Returns the bounds of the first permitted subtree.
 fn bounds_told(alloc: Global, octets: &[u8]) -> Result<(u8, Option<u8>), u8> {
     match NameConstraints::from_der(alloc, octets) {
         Ok(constraints) => {

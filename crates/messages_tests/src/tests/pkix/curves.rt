@@ -7,7 +7,7 @@ use std::alloc::Global;
 use std::process::Abort;
 use std::test::Fail;
 
-// Whether the curve has a name, and the bits of the public key.
+// Returns whether the curve has a name, and the number of bits of the public key.
 fn curve_key_told(alloc: Global, octets: &[u8]) -> Result<(Option<bool>, Option<usize>), u8> {
     match EcPrivateKey::from_der(alloc, octets) {
         Ok(key) => {
@@ -26,8 +26,8 @@ fn curve_key_told(alloc: Global, octets: &[u8]) -> Result<(Option<bool>, Option<
     }
 }
 
-// Of a specified curve the version, the octets of the base and of the order, and whether there are a
-// seed, a cofactor and a hash.
+// Returns the version of a specified curve, the numbers of octets of the base and of the order,
+// and whether a seed, a cofactor and a hash are present.
 fn domain_told(alloc: Global, octets: &[u8]) -> Result<(u8, usize, usize, bool, bool, bool), u8> {
     match EcParameters::from_der(alloc, octets) {
         Ok(EcParameters::SpecifiedCurve(domain)) => Ok((

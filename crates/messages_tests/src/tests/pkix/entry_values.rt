@@ -17,7 +17,7 @@ fn reason_told(alloc: Global, octets: &[u8]) -> Result<CrlReason, u8> {
     }
 }
 
-// The year, the day and the hour.
+// Returns the year, the day and the hour.
 fn date_told(alloc: Global, octets: &[u8]) -> Result<(u16, u8, u8), u8> {
     match InvalidityDate::from_der(alloc, octets) {
         Ok(date) => {
@@ -28,7 +28,7 @@ fn date_told(alloc: Global, octets: &[u8]) -> Result<(u16, u8, u8), u8> {
     }
 }
 
-// How many parts the name of a directory has.
+// Returns the number of parts of a directory name.
 fn parts_of(alloc: Global, name: &GeneralName) -> Result<usize, u8> {
     match name {
         GeneralName::DirectoryName(name) => numbered(name.items().count(alloc)),
@@ -36,7 +36,8 @@ fn parts_of(alloc: Global, name: &GeneralName) -> Result<usize, u8> {
     }
 }
 
-// How many names there are, and how many parts the first has, which is a directory's.
+// Returns the number of names, and the number of parts of the first one, which is a directory
+// name.
 fn issuer_told(alloc: Global, octets: &[u8]) -> Result<(usize, usize), u8> {
     match CertificateIssuer::from_der(alloc, octets) {
         Ok(names) => {
@@ -51,7 +52,7 @@ fn issuer_told(alloc: Global, octets: &[u8]) -> Result<(usize, usize), u8> {
     }
 }
 
-// The contents octets of the instruction.
+// Returns the contents octets of the instruction.
 fn instruction_told(alloc: Global, octets: &[u8]) -> Result<Vec<u8>, u8> {
     match HoldInstructionCode::from_der(alloc, octets) {
         Ok(code) => copied(alloc, code.as_bytes()),

@@ -7,7 +7,8 @@ use std::alloc::Global;
 use std::process::Abort;
 use std::test::Fail;
 
-// The contents octets of the identifier, whether the extension is critical, and the octets of its value.
+// Returns the contents octets of the identifier, whether the extension is critical, and the
+// octets of its value.
 fn extension_told(alloc: Global, octets: &[u8]) -> Result<(Vec<u8>, bool, Vec<u8>), u8> {
     match Extension::from_der(alloc, octets) {
         Ok(extension) => {

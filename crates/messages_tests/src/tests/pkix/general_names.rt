@@ -8,7 +8,7 @@ use std::alloc::Global;
 use std::process::Abort;
 use std::test::Fail;
 
-// The place of an alternative, in their order.
+// Returns the index of an alternative, in their order.
 fn kind_of(name: &GeneralName) -> u8 {
     match name {
         GeneralName::OtherName(_) => 0,
@@ -23,7 +23,7 @@ fn kind_of(name: &GeneralName) -> u8 {
     }
 }
 
-// The kinds of some names.
+// Returns the kinds of some names.
 fn kinds_told(alloc: Global, octets: &[u8]) -> Result<Vec<u8>, u8> {
     let names = match SubjectAltName::from_der(alloc, octets) {
         Ok(names) => names,
@@ -57,7 +57,7 @@ fn alternative_names_have_kinds(rt: HostRuntime) -> Result<(), Fail> {
     Ok(())
 }
 
-/// The octets of a registered identifier, or of a directory's name.
+/// Returns the octets of a registered identifier or of a directory name.
 fn octets_of_name(alloc: Global, octets: &[u8]) -> Result<Vec<u8>, u8> {
     match GeneralName::from_der(alloc, octets) {
         Ok(GeneralName::RegisteredId(identifier)) => copied(alloc, identifier.as_bytes()),
@@ -67,7 +67,7 @@ fn octets_of_name(alloc: Global, octets: &[u8]) -> Result<Vec<u8>, u8> {
     }
 }
 
-/// A general name that is the directory's name with these octets.
+/// Returns a general name that is the directory name with these octets.
 fn general_name_of(alloc: Global, octets: &[u8]) -> Result<Vec<u8>, u8> {
     match Name::from_der(alloc, octets) {
         Ok(name) => {

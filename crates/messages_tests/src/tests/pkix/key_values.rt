@@ -12,7 +12,7 @@ use std::alloc::Global;
 use std::process::Abort;
 use std::test::Fail;
 
-// Whether a key may sign certificates, and lists, and data.
+// Returns whether a key may sign certificates, lists, and data.
 fn usage_told(alloc: Global, octets: &[u8]) -> Result<(bool, bool, bool), u8> {
     match KeyUsage::from_der(alloc, octets) {
         Ok(usage) => Ok((
@@ -24,7 +24,7 @@ fn usage_told(alloc: Global, octets: &[u8]) -> Result<(bool, bool, bool), u8> {
     }
 }
 
-// How many purposes there are, and whether the last is that of a client.
+// Returns the number of purposes, and whether the last one is that of a client.
 fn purposes_told(alloc: Global, octets: &[u8]) -> Result<(usize, bool), u8> {
     match ExtKeyUsageSyntax::from_der(alloc, octets) {
         Ok(purposes) => {
@@ -46,7 +46,8 @@ fn key_identifier_told(alloc: Global, octets: &[u8]) -> Result<Vec<u8>, u8> {
     }
 }
 
-// The octets of the key's identifier, how many names the issuer has, and the octets of the number.
+// Returns the octets of the key's identifier, the number of the issuer's names, and the octets of
+// the serial number.
 fn authority_told(
     alloc: Global,
     octets: &[u8],
@@ -71,7 +72,7 @@ fn authority_told(
     }
 }
 
-// The years of a period's two ends.
+// Returns the years of a period's two ends.
 fn period_told(alloc: Global, octets: &[u8]) -> Result<(Option<u16>, Option<u16>), u8> {
     match PrivateKeyUsagePeriod::from_der(alloc, octets) {
         Ok(period) => Ok((year_of(period.not_before()), year_of(period.not_after()))),

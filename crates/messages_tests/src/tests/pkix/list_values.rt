@@ -24,7 +24,7 @@ fn base_told(alloc: Global, octets: &[u8]) -> Result<Vec<u8>, u8> {
     }
 }
 
-// The four answers to what the list is about, in their order.
+// Returns the four flags for the scope of the list, in their order.
 fn point_told(alloc: Global, octets: &[u8]) -> Result<(bool, bool, bool, bool), u8> {
     match IssuingDistributionPoint::from_der(alloc, octets) {
         Ok(point) => Ok((
@@ -37,8 +37,8 @@ fn point_told(alloc: Global, octets: &[u8]) -> Result<(bool, bool, bool, bool), 
     }
 }
 
-// How many names the point has in full, and whether the list tells of keys that were compromised, and
-// of certificates that were superseded.
+// Returns the number of the point's full names, and whether the list covers compromised keys and
+// superseded certificates.
 fn reasons_told(alloc: Global, octets: &[u8]) -> Result<(usize, bool, bool), u8> {
     match IssuingDistributionPoint::from_der(alloc, octets) {
         Ok(point) => {

@@ -16,7 +16,7 @@ fn attribute_told(alloc: Global, attribute: &AttributeTypeAndValue) -> Result<To
     Ok((kind, value))
 }
 
-// How many attributes stand in a part, and what the first one says.
+// Returns the number of attributes of a part, and the first attribute.
 fn part_told(alloc: Global, part: &RelativeDistinguishedName) -> Result<(usize, Told), u8> {
     let count = numbered(part.items().count(alloc))?;
     match part.items().get(alloc, 0) {
@@ -26,7 +26,7 @@ fn part_told(alloc: Global, part: &RelativeDistinguishedName) -> Result<(usize, 
     }
 }
 
-// How many parts a name has, and what the second one says.
+// Returns the number of parts of a name, and the second part.
 fn name_told(alloc: Global, octets: &[u8]) -> Result<(usize, (usize, Told)), u8> {
     match Name::from_der(alloc, octets) {
         Ok(name) => {

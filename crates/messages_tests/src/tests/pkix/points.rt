@@ -9,7 +9,8 @@ use std::alloc::Global;
 use std::process::Abort;
 use std::test::Fail;
 
-/// A point's name: how many names it has in full, or how many attributes relative to the issuer.
+/// The name of a point: its number of full names, or its number of attributes relative to the
+/// issuer.
 #[derive(Debug, PartialEq, Eq, Drop)]
 enum Named {
     No,
@@ -31,7 +32,8 @@ fn name_of_point(alloc: Global, point: &DistributionPoint) -> Result<Named, u8> 
     }
 }
 
-// The name of a point, whether it tells of keys that were compromised, and how many names the issuer has.
+// Returns the name of a point, whether its reasons include compromised keys, and the number of
+// the issuer's names.
 fn point_told(alloc: Global, point: &DistributionPoint) -> Result<(Named, bool, usize), u8> {
     let tells = match point.reasons() {
         Some(reasons) => reasons.has(REASON_FLAGS_KEY_COMPROMISE),
@@ -44,7 +46,7 @@ fn point_told(alloc: Global, point: &DistributionPoint) -> Result<(Named, bool, 
     Ok((name_of_point(alloc, point)?, tells, names))
 }
 
-// How many points there are, and what that with this number says.
+// Returns the number of points, and the fields of the point with this index.
 fn points_told(
     alloc: Global,
     octets: &[u8],

@@ -11,11 +11,12 @@ use std::alloc::Global;
 use std::process::Abort;
 use std::test::Fail;
 
-/// The contents octets of a policy's identifier, how many qualifiers it has, and whether the first of
-/// these is the place of a statement.
+/// The contents octets of a policy's identifier, the number of its qualifiers, and whether the
+/// first qualifier is the location of a statement.
 type Told = (Vec<u8>, usize, bool);
 
-// How many qualifiers a policy has, and whether the first of these is the place of a statement.
+// Returns the number of qualifiers of a policy, and whether the first one is the location of a
+// statement.
 fn qualifiers_told(alloc: Global, policy: &PolicyInformation) -> Result<(usize, bool), u8> {
     let Some(qualifiers) = policy.policy_qualifiers() else {
         return Ok((0, false));
@@ -37,7 +38,7 @@ fn policy_told(alloc: Global, policy: &PolicyInformation) -> Result<Told, u8> {
     Ok((identifier, count, is_place))
 }
 
-// How many policies there are, and what the last one says.
+// Returns the number of policies, and the fields of the last one.
 fn policies_told(alloc: Global, octets: &[u8]) -> Result<(usize, Told), u8> {
     match CertificatePolicies::from_der(alloc, octets) {
         Ok(policies) => {
@@ -52,14 +53,14 @@ fn policies_told(alloc: Global, octets: &[u8]) -> Result<(usize, Told), u8> {
     }
 }
 
-// The contents octets of a mapping's two identifiers.
+// Returns the contents octets of a mapping's two identifiers.
 fn mapping_told(alloc: Global, mapping: &PolicyMapping) -> Result<(Vec<u8>, Vec<u8>), u8> {
     let issuer = copied(alloc, mapping.issuer_domain_policy().as_bytes())?;
     let subject = copied(alloc, mapping.subject_domain_policy().as_bytes())?;
     Ok((issuer, subject))
 }
 
-// How many mappings there are, and the identifiers of the last one.
+// Returns the number of mappings, and the identifiers of the last one.
 fn mappings_told(alloc: Global, octets: &[u8]) -> Result<(usize, (Vec<u8>, Vec<u8>)), u8> {
     match PolicyMappings::from_der(alloc, octets) {
         Ok(mappings) => {
@@ -74,7 +75,7 @@ fn mappings_told(alloc: Global, octets: &[u8]) -> Result<(usize, (Vec<u8>, Vec<u
     }
 }
 
-// The octets of the two numbers.
+// Returns the octets of the two numbers.
 fn policy_constraints_told(
     alloc: Global,
     octets: &[u8],

@@ -7,7 +7,7 @@ use std::alloc::Global;
 use std::process::Abort;
 use std::test::Fail;
 
-// The version, how many attributes there are, and the bits of the public key.
+// Returns the version, the number of attributes, and the number of bits of the public key.
 fn private_key_told(
     alloc: Global,
     octets: &[u8],
@@ -28,7 +28,7 @@ fn private_key_told(
     }
 }
 
-// The version, the octets of the public exponent, and how many further primes there are.
+// Returns the version, the octets of the public exponent, and the number of further primes.
 fn rsa_private_key_told(alloc: Global, octets: &[u8]) -> Result<(u8, Vec<u8>, usize), u8> {
     match RsaPrivateKey::from_der(alloc, octets) {
         Ok(key) => {

@@ -7,7 +7,7 @@ use std::alloc::Global;
 use std::process::Abort;
 use std::test::Fail;
 
-// Whether the algorithm has parameters, and the bits of the key.
+// Returns whether the algorithm has parameters, and the number of bits of the key.
 fn public_key_told(alloc: Global, octets: &[u8]) -> Result<(bool, usize), u8> {
     match SubjectPublicKeyInfo::from_der(alloc, octets) {
         Ok(key) => Ok((

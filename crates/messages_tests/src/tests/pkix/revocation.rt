@@ -7,17 +7,18 @@ use std::alloc::Global;
 use std::process::Abort;
 use std::test::Fail;
 
-/// Two certificates, one with a reason, an identifier of the issuer's key and a number.
+/// A list of two certificates, one of them with a reason. The list has an identifier of the
+/// issuer's key and a number.
 const TWO: &str =
     "308201153081c8020101300506032b6570302d310b3009060355040613025345310f300d060355040a0c064261726c6579310d300b06035504030c046d696c6c170d3236313132333038313030375a170d3236313232333038313030375a303e302402050123430235170d3236313132333038313030375a300c300a0603551d1504030a0101301602050123430324170d3236313132333038313030375aa02f302d301f0603551d230418301680140894da7aed9f78720d852c7a00aae7c41f546dd2300a0603551d140403020102300506032b657003410092d523e2ddae2f4192c776218fb80de317024bec09ce02fdb441bb106fd0f75dcd21d113fa1ef9cecf252961eb55d525ac5f1f5cbf4dc57367db61ede1331802";
 
-/// Three entries with each extension of an entry but the issuer, and each extension of a list but the
-/// freshest.
+/// Three entries with each extension of an entry except the issuer, and each extension of a list
+/// except the freshest.
 const ALL_EXTENSIONS: &str =
     "308201b630820168020101300506032b6570302d310b3009060355040613025345310f300d060355040a0c064261726c6579310d300b06035504030c046d696c6c170d3236313132373132353733385a170d3236313232373132353733385a3081923032020105170d3236313132333038313030375a301e300a0603551d1504030a010630100603551d17040906072a8648ce380202303a020106170d3236313132333038313030375a3026300a0603551d1504030a010130180603551d180411180f32303236313132323038303030305a3020020107170d3236313132333038313030375a300c300a0603551d1504030a0104a07a3078301f0603551d230418301680141a927ec59003518bfefddcfc6012429841c4074c300d0603551d1b0101ff0403020105303a0603551d1c0101ff0430302ea022a020861e687474703a2f2f6261726c65792e6578616d706c652f6d696c6c2e63726c8101ff830205608401ff300a0603551d14040302011f300506032b6570034100bce75a41c4015a86174d8f2add8b400f62eb5b9bf4abac8de073ea7a3bf7c3981039d7b45f8d40bc505ac73acf34310db3b485d8267b2cd6e249f0cc25fe8a0c";
 
-// The version, how many entries and extensions there are, whether there is a next update, and the bits
-// of the signature.
+// Returns the version, the numbers of entries and of extensions, whether a next update is
+// present, and the number of bits of the signature.
 fn list_told(
     alloc: Global,
     octets: &[u8],
@@ -45,7 +46,7 @@ fn list_told(
     }
 }
 
-// The octets of the number, and how many extensions there are.
+// Returns the octets of the serial number, and the number of extensions.
 fn entry_told(alloc: Global, octets: &[u8]) -> Result<(Vec<u8>, usize), u8> {
     match RevokedCertificate::from_der(alloc, octets) {
         Ok(entry) => {

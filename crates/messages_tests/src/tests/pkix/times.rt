@@ -16,7 +16,7 @@ fn validity_again(alloc: Global, octets: &[u8]) -> Result<Vec<u8>, u8> {
     again::<Validity>(alloc, octets)
 }
 
-// The years of the two times, and whether each is a GeneralizedTime.
+// Returns the years of the two times, and whether each is a GeneralizedTime.
 fn validity_told(alloc: Global, octets: &[u8]) -> Result<((u16, bool), (u16, bool)), u8> {
     match Validity::from_der(alloc, octets) {
         Ok(validity) => Ok((

@@ -9,7 +9,7 @@ use der_places::{next_place, places_of};
 use std::alloc::Global;
 use std::test::Fail;
 
-// The places of the fields of an attribute of a name.
+// Returns the byte ranges of the fields of an attribute of a name.
 fn in_a_name(alloc: Global, octets: &[u8]) -> Result<AttributeTypeAndValuePlaces, u8> {
     match AttributeTypeAndValue::from_der(alloc, octets) {
         Ok(attribute) => Ok(places_of(&attribute, octets, 0)),
@@ -17,7 +17,7 @@ fn in_a_name(alloc: Global, octets: &[u8]) -> Result<AttributeTypeAndValuePlaces
     }
 }
 
-// The places of the fields of an attribute with a set of values.
+// Returns the byte ranges of the fields of an attribute with a set of values.
 fn with_values(alloc: Global, octets: &[u8]) -> Result<AttributePlaces, u8> {
     match Attribute::from_der(alloc, octets) {
         Ok(attribute) => Ok(places_of(&attribute, octets, 0)),

@@ -12,16 +12,17 @@ use std::alloc::Global;
 use std::test::Fail;
 
 /// `openssl ca -selfsign -keyfile mill.key -in mill.csr -startdate 491231235959Z -enddate
-/// 20500101000000Z -extensions ext`, where the section has basicConstraints, keyUsage,
+/// 20500101000000Z -extensions ext`. The section has basicConstraints, keyUsage,
 /// subjectKeyIdentifier and subjectAltName.
 const CERTIFICATE: &str =
     "308201293081dca003020102020101300506032b6570300f310d300b06035504030c046d696c6c3020170d3439313233313233353935395a180f32303530303130313030303030305a300f310d300b06035504030c046d696c6c302a300506032b6570032100e96776c112e1bb8939860bdd34e9fa94ed769b579919d3918b7dea083a1fb847a35b3059300f0603551d130101ff040530030101ff300e0603551d0f0101ff040403020106301d0603551d0e04160414d40d52919d787be8dcfa38f0bf93c8e599eda0e430170603551d110410300e820c6d696c6c2e6578616d706c65300506032b65700341009df33684beadeb10aeb0fdf18ebf7d65a0efa75b1fa556260fa413243a1f3a5b9642822699661e90dc7f5ab6290c95488d8d8bff26c7276f18a3b4dacbc8ac00";
 
-/// The same in version 1, with a unique identifier of the issuer and no extensions.
+/// The certificate above in version 1, with a unique identifier of the issuer and no extensions.
 const WITH_UNIQUE: &str =
     "3081ca307e020101300506032b6570300f310d300b06035504030c046d696c6c3020170d3439313233313233353935395a180f32303530303130313030303030305a300f310d300b06035504030c046d696c6c302a300506032b6570032100e96776c112e1bb8939860bdd34e9fa94ed769b579919d3918b7dea083a1fb84781020055300506032b65700341009df33684beadeb10aeb0fdf18ebf7d65a0efa75b1fa556260fa413243a1f3a5b9642822699661e90dc7f5ab6290c95488d8d8bff26c7276f18a3b4dacbc8ac00";
 
-// The places of the fields of a certificate, and of what is signed of it; or the number of the fault.
+// Returns the byte ranges of the fields of a certificate and of its signed part, or the number of
+// the error.
 fn fields(alloc: Global, octets: &[u8]) -> Result<(CertificatePlaces, TbsCertificatePlaces), u8> {
     match Certificate::from_der(alloc, octets) {
         Ok(certificate) => {
@@ -34,7 +35,7 @@ fn fields(alloc: Global, octets: &[u8]) -> Result<(CertificatePlaces, TbsCertifi
     }
 }
 
-// The places of the fields of the first two extensions.
+// Returns the byte ranges of the fields of the first two extensions.
 fn first_extensions(
     alloc: Global,
     octets: &[u8],
@@ -56,7 +57,8 @@ fn two_extensions(
     Some((one, second))
 }
 
-// The places of the fields of an extension, of which the number in the list and the offset are told.
+// Returns the byte ranges of the fields of the extension with this index in the list, at this
+// offset.
 fn extension_at(
     alloc: Global,
     extensions: &Extensions<'_>,
@@ -70,7 +72,7 @@ fn extension_at(
     }
 }
 
-// The places of the fields of a key.
+// Returns the byte ranges of the fields of a key.
 fn key_fields(alloc: Global, octets: &[u8]) -> Result<SubjectPublicKeyInfoPlaces, u8> {
     match SubjectPublicKeyInfo::from_der(alloc, octets) {
         Ok(key) => Ok(places_of(&key, octets, 0)),

@@ -9,7 +9,7 @@ use der_places::places_of;
 use std::alloc::Global;
 use std::test::Fail;
 
-// The places of the fields of a private key.
+// Returns the byte ranges of the fields of a private key.
 fn fields(alloc: Global, octets: &[u8]) -> Result<OneAsymmetricKeyPlaces, u8> {
     match OneAsymmetricKey::from_der(alloc, octets) {
         Ok(key) => Ok(places_of(&key, octets, 0)),

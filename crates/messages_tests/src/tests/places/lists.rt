@@ -13,7 +13,7 @@ use std::test::Fail;
 const LIST: &str =
     "308198304c300506032b6570300f310d300b06035504030c046d696c6c170d3236313132373136353730375a170d3236313232373136353730375a30143012020101170d3236313132373136353730375a300506032b6570034100050c23f211346a07339444341a82893c30098c8060a3cf8b7107f2996f4d5519643ebc657118585796e93fd50fafb9bf43d5dfc85105567b2b9f58b26d025003";
 
-// The places of the fields of a list, and of what is signed of it.
+// Returns the byte ranges of the fields of a list and of its signed part.
 fn fields(alloc: Global, octets: &[u8]) -> Result<(CertificateListPlaces, TbsCertListPlaces), u8> {
     match CertificateList::from_der(alloc, octets) {
         Ok(list) => {
@@ -25,7 +25,7 @@ fn fields(alloc: Global, octets: &[u8]) -> Result<(CertificateListPlaces, TbsCer
     }
 }
 
-// The places of the fields of the first entry.
+// Returns the byte ranges of the fields of the first entry.
 fn first_entry(alloc: Global, octets: &[u8]) -> Result<Option<RevokedCertificatePlaces>, u8> {
     match CertificateList::from_der(alloc, octets) {
         Ok(list) => Ok(entry_of(alloc, &list, octets)),

@@ -13,7 +13,7 @@ use std::test::Fail;
 const REQUEST: &str =
     "3081b03064020100300f310d300b06035504030c046d696c6c302a300506032b6570032100bc883ff0865c26f855de8d898353a85b35f40de18d795018e9e51bf923732a84a022302006092a864886f70d01090e31133011300f0603551d110408300682046d696c6c300506032b6570034100e041477978c28f4d2e36bd0f0ced526489df9700c404a525288e85c0a3691a273507375851bcb9c33b8d351c7cb9589ba1ba5270cc281ac04f7cb12d27fd4e09";
 
-// The places of the fields of a request, and of what is signed of it.
+// Returns the byte ranges of the fields of a request and of its signed part.
 fn fields(
     alloc: Global,
     octets: &[u8],

@@ -16,7 +16,7 @@ use std::test::Fail;
 const MESSAGE: &str =
     "3082013a06092a864886f70d010702a082012b30820127020101310d300b0609608648016503040201301406092a864886f70d010701a007040568656c6c6f3181fc3081f90201013027300f310d300b06035504030c046d696c6c02145f33fbe19b5fb474022799b0529eae0e2f197060300b0609608648016503040201a069301806092a864886f70d010903310b06092a864886f70d010701301c06092a864886f70d010905310f170d3236313132383038323532395a302f06092a864886f70d010904312204202cf24dba5fb0a30e26e83b2ac5b9e29e1b161e5c1fa7425e73043362938b9824300a06082a8648ce3d0403020447304502206c4ce2feaf5f52685d4179299e8a4eb83848f3f5016d7700a53885ffc7b0c3d1022100903cca7f2f6e3c90c4873b3df407dfd98aa66c7b3b40e65e2c50ea89ae2e0fb6";
 
-// The places of the fields of a message.
+// Returns the byte ranges of the fields of a message.
 fn fields(alloc: Global, octets: &[u8]) -> Result<ContentInfoPlaces, u8> {
     match ContentInfo::from_der(alloc, octets) {
         Ok(message) => Ok(places_of(&message, octets, 0)),
@@ -24,7 +24,8 @@ fn fields(alloc: Global, octets: &[u8]) -> Result<ContentInfoPlaces, u8> {
     }
 }
 
-// The places of the fields of what is in it, of its content and of its first signer.
+// Returns the byte ranges of the fields of the SignedData, of its content and of its first
+// signer.
 fn inner(
     alloc: Global,
     octets: &[u8],

@@ -13,11 +13,11 @@ use std::alloc::Global;
 use std::test::Fail;
 
 /// `openssl ocsp -index index -CA mill.pem -rsigner mill.pem -rkey mill.key -reqin o.req -ndays 7
-/// -resp_no_certs -resp_key_id`, of one certificate that is good and one that is revoked.
+/// -resp_no_certs -resp_key_id`, for one good certificate and one revoked one.
 const ANSWER: &str =
     "308201820a0100a082017b3082017706092b060105050730010104820168308201643082010aa2160414420a99e3653456b1094d5e1d440a30017e90f1b9180f32303236313132383038323532395a3081de3062303a300906052b0e03021a050004141dd2f1ee5750656f97110b338c846ee99db6d7670414420a99e3653456b1094d5e1d440a30017e90f1b90201018000180f32303236313132383038323532395aa011180f32303236313230353038323532395a3078303a300906052b0e03021a050004141dd2f1ee5750656f97110b338c846ee99db6d7670414420a99e3653456b1094d5e1d440a30017e90f1b9020102a116180f32303236303130323033303430355aa0030a0101180f32303236313132383038323532395aa011180f32303236313230353038323532395a300a06082a8648ce3d040302034800304502200885cf84626f7a3ae683035288c9e9231ded87cf66f4f1434885e86c1fdd607a022100ea1fd4ba60a25b1423c6659367b8e4f6154a11421dab500a2e3f0e2637846af3";
 
-// The places of the fields of an answer, and of what it holds.
+// Returns the byte ranges of the fields of a response and of its contents.
 fn fields(
     alloc: Global,
     octets: &[u8],
@@ -36,7 +36,8 @@ fn fields(
     }
 }
 
-// The places of the fields of what is signed, of its data and of its second answer.
+// Returns the byte ranges of the fields of the basic response, of its data and of its second
+// single response.
 fn inner(
     alloc: Global,
     octets: &[u8],

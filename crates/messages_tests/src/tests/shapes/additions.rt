@@ -9,10 +9,10 @@ use std::alloc::Global;
 use std::cmp::Ordering;
 use std::test::Fail;
 
-/// What each row is refused with: its octets, and the number.
+/// The octets of a refused row, and the number of the refusal.
 type Row = (&'static str, u8);
 
-/// A SEQUENCE of one INTEGER, and of what comes after.
+/// A SEQUENCE of one INTEGER and of additions after it.
 type Limit<'a> = FieldSequence<Fields1<u8, Additions<'a>>>;
 
 fn extensible_again(alloc: Global, octets: &[u8]) -> Result<Vec<u8>, u8> {

@@ -9,10 +9,10 @@ use std::cmp::Ordering;
 use std::process::Abort;
 use std::test::Fail;
 
-/// What each row is refused with: its octets, and the number.
+/// The octets of a refused row, and the number of the refusal.
 type Row = (&'static str, u8);
 
-/// An even digit, by what it is not.
+/// An even digit, defined by the values that it excludes.
 type Even = Constrained<i64, IntersectionOf<InRange<0, 2>, AllExcept<InRange<1, 1>>>>;
 
 fn small_again(alloc: Global, octets: &[u8]) -> Result<Vec<u8>, u8> {
@@ -190,7 +190,7 @@ fn constrained_alternatives_are_read(rt: HostRuntime) -> Result<(), Fail> {
     Ok(())
 }
 
-// Fields of a value that is read: the numbers, and how long the code is.
+// Returns fields of a value that is read: the numbers, and the length of the code.
 fn seen(alloc: Global, octets: &[u8]) -> Result<(i8, Option<u8>, u32), u8> {
     let bounded = numbered(Bounded::from_der(alloc, octets))?;
     let few = match bounded.few() {

@@ -7,10 +7,10 @@ use std::alloc::Global;
 use std::process::Abort;
 use std::test::Fail;
 
-/// What each row is refused with: its octets, and the number.
+/// The octets of a refused row, and the number of the refusal.
 type Row = (&'static str, u8);
 
-// `visible`, `port`, `offset`, `level` and `color`.
+// Returns `visible`, `port`, `offset`, `level` and `color`.
 fn counted(alloc: Global, octets: &[u8]) -> Result<(bool, u16, i8, i16, Color), u8> {
     match Counted::from_der(alloc, octets) {
         Ok(found) => Ok((
@@ -24,7 +24,7 @@ fn counted(alloc: Global, octets: &[u8]) -> Result<(bool, u16, i8, i16, Color), 
     }
 }
 
-// Whether the integers of any length have these octets.
+// Returns whether the integers of any length have these octets.
 fn has_integers(alloc: Global, octets: &[u8], balance: &[u8], serial: &[u8]) -> bool {
     match Counted::from_der(alloc, octets) {
         Ok(found) => found.balance().as_bytes() == balance && found.serial().as_bytes() == serial,
@@ -32,7 +32,7 @@ fn has_integers(alloc: Global, octets: &[u8], balance: &[u8], serial: &[u8]) -> 
     }
 }
 
-// Whether the strings are these.
+// Returns whether these are the strings.
 fn has_texts(alloc: Global, octets: &[u8], name: &str, place: &str, mail: &str) -> bool {
     match Described::from_der(alloc, octets) {
         Ok(found) => {
@@ -44,7 +44,7 @@ fn has_texts(alloc: Global, octets: &[u8], name: &str, place: &str, mail: &str) 
     }
 }
 
-// Whether the key, the bits and the identifier have these octets.
+// Returns whether the key, the bits and the identifier have these octets.
 fn has_octets(alloc: Global, octets: &[u8], key: &[u8], bits: &[u8], identifier: &[u8]) -> bool {
     match Described::from_der(alloc, octets) {
         Ok(found) => {
@@ -56,7 +56,7 @@ fn has_octets(alloc: Global, octets: &[u8], key: &[u8], bits: &[u8], identifier:
     }
 }
 
-// The color.
+// Returns the color.
 fn color(alloc: Global, octets: &[u8]) -> Result<Color, u8> {
     match Described::from_der(alloc, octets) {
         Ok(found) => Ok(found.color()),

@@ -8,7 +8,7 @@ use std::cmp::Ordering;
 use std::process::Abort;
 use std::test::Fail;
 
-/// What each row is refused with: its octets, and the number.
+/// The octets of a refused row, and the number of the refusal.
 type Row = (&'static str, u8);
 
 fn nothing_again(alloc: Global, octets: &[u8]) -> Result<Vec<u8>, u8> {
@@ -23,7 +23,7 @@ fn marks_again(alloc: Global, octets: &[u8]) -> Result<Vec<u8>, u8> {
     again::<Marks>(alloc, octets)
 }
 
-// Which of the two fields that may be absent are there.
+// Returns which of the two optional fields are present.
 fn present(alloc: Global, octets: &[u8]) -> Result<(bool, bool), u8> {
     let marks = numbered(Marks::from_der(alloc, octets))?;
     Ok((marks.second().is_some(), marks.third().is_some()))

@@ -7,7 +7,7 @@ use std::alloc::Global;
 use std::process::Abort;
 use std::test::Fail;
 
-// The minimum, whether there is a maximum, `only`, and how many statuses.
+// Returns the minimum, whether a maximum is present, `only`, and the number of statuses.
 fn bounds_of(alloc: Global, octets: &[u8]) -> Result<(u8, bool, bool, usize), u8> {
     match Subtree::from_der(alloc, octets) {
         Ok(subtree) => {
@@ -22,7 +22,7 @@ fn bounds_of(alloc: Global, octets: &[u8]) -> Result<(u8, bool, bool, usize), u8
     }
 }
 
-// Whether the identifier of a pair has these contents octets.
+// Returns whether the identifier of a pair has these contents octets.
 fn is_of_type(alloc: Global, octets: &[u8], identifier: &[u8]) -> bool {
     match Pair::from_der(alloc, octets) {
         Ok(pair) => pair.type_().as_bytes() == identifier,

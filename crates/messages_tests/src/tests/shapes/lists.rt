@@ -13,15 +13,15 @@ use std::alloc::Global;
 use std::cmp::Ordering;
 use std::test::Fail;
 
-/// What each row is refused with: its octets, and the number.
+/// The octets of a refused row, and the number of the refusal.
 type Row = (&'static str, u8);
 
-/// Every field of `Lists`: the numbers 8 and 7, two lists of numbers, two pairs, two statuses that do not
-/// stand in order, and two strings of bits.
+/// Every field of `Lists`: the numbers 8 and 7, two lists of numbers, two pairs, two statuses
+/// that are not in order, and two bit strings.
 const EVERY: &str =
     "30373006020108020107300730030201053000a0143112300706032a03030500300706032a03040500a10482008000310803020080030200c0";
 
-/// Those fields alone that are never absent, with the fewest items.
+/// Only the required fields, with the fewest items.
 const FEWEST: &str = "30083000300230003100";
 
 fn numbers_again(alloc: Global, octets: &[u8]) -> Result<Vec<u8>, u8> {
@@ -211,7 +211,7 @@ fn fields_that_are_lists_are_refused(rt: HostRuntime) -> Result<(), Fail> {
     Ok(())
 }
 
-// Where the refusal of octets stands.
+// Returns the position of the refusal of octets.
 fn position<'a, T: FromDer<'a> + Drop>(alloc: Global, octets: &'a [u8]) -> Option<Length> {
     match T::from_der(alloc, octets) {
         Ok(_value) => None,
@@ -240,7 +240,7 @@ fn a_fault_stands_where_that_of_a_vector_does(rt: HostRuntime) -> Result<(), Fai
     Ok(())
 }
 
-// The numbers of a list.
+// Returns the numbers of a list.
 fn numbers_of(alloc: Global, octets: &[u8]) -> Result<Vec<u8>, u8> {
     let numbers = numbered(Numbers::from_der(alloc, octets))?;
     numbered(numbers.items().to_vec(alloc))
@@ -255,7 +255,8 @@ fn numbers_have_items(rt: HostRuntime) -> Result<(), Fail> {
     Ok(())
 }
 
-// How many numbers there are, how many lists of numbers and the numbers of the first.
+// Returns the number of numbers, the number of lists of numbers, and the numbers of the first
+// list.
 fn lists_of_numbers(alloc: Global, octets: &[u8]) -> Result<(usize, usize, Vec<u8>), u8> {
     let lists = numbered(Lists::from_der(alloc, octets))?;
     let numbers = numbered(lists.numbers().items().count(alloc))?;
@@ -265,7 +266,7 @@ fn lists_of_numbers(alloc: Global, octets: &[u8]) -> Result<(usize, usize, Vec<u
     Ok((numbers, count, numbered(first.items().to_vec(alloc))?))
 }
 
-// The contents octets of the pairs and of the statuses, if there are any.
+// Returns the contents octets of the pairs and of the statuses, if there are any.
 fn sets_of(alloc: Global, octets: &[u8]) -> Result<(Option<Vec<u8>>, Option<Vec<u8>>), u8> {
     let lists = numbered(Lists::from_der(alloc, octets))?;
     let ordered = match lists.ordered() {
@@ -279,7 +280,7 @@ fn sets_of(alloc: Global, octets: &[u8]) -> Result<(Option<Vec<u8>>, Option<Vec<
     Ok((ordered, unordered))
 }
 
-// The first octet of each string of bits.
+// Returns the first octet of each bit string.
 fn bits_of(alloc: Global, octets: &[u8]) -> Result<Vec<u8>, u8> {
     let lists = numbered(Lists::from_der(alloc, octets))?;
     let mut firsts = Vec::new(alloc);
@@ -297,7 +298,7 @@ fn bits_of(alloc: Global, octets: &[u8]) -> Result<Vec<u8>, u8> {
     Ok(firsts)
 }
 
-// Whether the first status is the last alternative, of which the list has that many.
+// Returns whether the first status is the last alternative, and the number of statuses.
 fn first_is_unknown(alloc: Global, octets: &[u8]) -> Result<(bool, usize), u8> {
     let unordered = numbered(Unordered::from_der(alloc, octets))?;
     let statuses = unordered.items();
@@ -308,7 +309,7 @@ fn first_is_unknown(alloc: Global, octets: &[u8]) -> Result<(bool, usize), u8> {
     ))
 }
 
-// The last octet of the identifier of the pair at a place.
+// Returns the last octet of the identifier of the pair at an index.
 fn pair_told(alloc: Global, octets: &[u8], place: usize) -> Result<u8, u8> {
     let ordered = numbered(Ordered::from_der(alloc, octets))?;
     match ordered.items().get(alloc, place) {
@@ -358,19 +359,19 @@ fn sets_have_items(rt: HostRuntime) -> Result<(), Fail> {
     Ok(())
 }
 
-// The encoding of numbers with these contents octets.
+// Returns the encoding of numbers with these contents octets.
 fn new_numbers(alloc: Global, contents: &[u8]) -> Result<Vec<u8>, u8> {
     let items = numbered(ListRef::new(alloc, contents))?;
     numbered(Numbers::new(items).to_der(alloc))
 }
 
-// The encoding of pairs with these contents octets.
+// Returns the encoding of pairs with these contents octets.
 fn new_ordered(alloc: Global, contents: &[u8]) -> Result<Vec<u8>, u8> {
     let items = numbered(SetRef::<Pair>::new(alloc, contents))?;
     numbered(Ordered::new(items).to_der(alloc))
 }
 
-// The encoding of statuses with these contents octets.
+// Returns the encoding of statuses with these contents octets.
 fn new_unordered(alloc: Global, contents: &[u8]) -> Result<Vec<u8>, u8> {
     let items = numbered(UnorderedSetRef::<Status>::new(alloc, contents))?;
     let items = numbered(NonEmptyRef::new(items))?;
@@ -403,7 +404,7 @@ fn lists_of_other_contents_are_not_made(rt: HostRuntime) -> Result<(), Fail> {
     Ok(())
 }
 
-// The encoding of lists with these fields, each of which is given by its own octets.
+// Returns the encoding of lists with these fields, each given by its own octets.
 fn new_lists(alloc: Global, fields: [&[u8]; 5]) -> Result<Vec<u8>, u8> {
     let [numbers, some, ordered, unordered, bits] = fields;
     let numbers = numbered(Numbers::from_der(alloc, numbers))?;
@@ -415,7 +416,7 @@ fn new_lists(alloc: Global, fields: [&[u8]; 5]) -> Result<Vec<u8>, u8> {
     numbered(lists.to_der(alloc))
 }
 
-// The same with no pairs and no statuses.
+// Returns the encoding of lists with these fields, no pairs and no statuses.
 fn new_lists_of_fewest(
     alloc: Global,
     numbers: &[u8],
@@ -452,7 +453,8 @@ fn lists_are_made_of_fields(rt: HostRuntime) -> Result<(), Fail> {
     Ok(())
 }
 
-// The order of the values of two encodings, whether they are equal, and whether a copy of the first is.
+// Returns the order of the values of two encodings, whether they are equal, and whether a copy of
+// the first is equal to it.
 fn lists_compared(
     alloc: Global,
     first: &[u8],

@@ -8,10 +8,10 @@ use std::cmp::Ordering;
 use std::process::Abort;
 use std::test::Fail;
 
-/// What each row is refused with: its octets, and the number.
+/// The octets of a refused row, and the number of the refusal.
 type Row = (&'static str, u8);
 
-/// Every field: the texts `a`, `b` and `c`, and that they are visible.
+/// Every field: the texts `a`, `b` and `c`, and TRUE for their visibility.
 const EVERY: &str = "300e040161040162a1030401630101ff";
 
 /// The number 5 as label, and no other field.
@@ -25,7 +25,7 @@ fn label_again(alloc: Global, octets: &[u8]) -> Result<Vec<u8>, u8> {
     again::<Label>(alloc, octets)
 }
 
-// Whether a copy of what the octets are read as is equal to it.
+// Returns whether a copy of the value that the octets are read as is equal to it.
 fn are_copied(alloc: Global, octets: &[u8]) -> Result<bool, u8> {
     match Labels::from_der(alloc, octets) {
         Ok(labels) => Ok(is_copied(&labels)),
@@ -40,14 +40,14 @@ fn is_label_copied(alloc: Global, octets: &[u8]) -> Result<bool, u8> {
     }
 }
 
-// The order of two values, and whether they are equal.
+// Returns the order of two values, and whether they are equal.
 fn order(alloc: Global, first: &[u8], second: &[u8]) -> Result<(Ordering, bool), u8> {
     let first = numbered(Labels::from_der(alloc, first))?;
     let second = numbered(Labels::from_der(alloc, second))?;
     compared(&first, &second)
 }
 
-// How many octets the title and the other text have, and whether they are visible.
+// Returns the numbers of octets of the title and of the other text, and whether they are visible.
 fn seen(alloc: Global, octets: &[u8]) -> Result<(usize, usize, bool), u8> {
     let labels = numbered(Labels::from_der(alloc, octets))?;
     let title = match labels.title() {
@@ -61,7 +61,7 @@ fn seen(alloc: Global, octets: &[u8]) -> Result<(usize, usize, bool), u8> {
     Ok((title, other, labels.visible()))
 }
 
-// The encoding of the parts of what the octets are read as, put together again.
+// Takes the value of the octets apart, and returns the encoding of the value made from its parts.
 fn put_together(alloc: Global, octets: &[u8]) -> Result<Vec<u8>, u8> {
     let labels = numbered(Labels::from_der(alloc, octets))?;
     let (label, title, other, visible) = labels.into_parts();

@@ -5,7 +5,7 @@ use der_shapes::shapes::{Chain, Filter, Node};
 use std::alloc::Global;
 use std::test::Fail;
 
-/// A Node with the value 5, one of each component, and the values 6, 7 and 8 in them.
+/// A Node with the value 5 and one component of each kind, which have the values 6, 7 and 8.
 const NODE: &str = "3016020105a003020106a105300302010730053003020108";
 
 fn filter_again(alloc: Global, octets: &[u8]) -> Result<Vec<u8>, u8> {

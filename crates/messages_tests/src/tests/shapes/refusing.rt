@@ -5,7 +5,7 @@ use der_shapes::shapes::{General, Mixed, Pair, Subtree};
 use std::process::Abort;
 use std::test::Fail;
 
-/// What each row is refused with: its octets, and the number.
+/// The octets of a refused row, and the number of the refusal.
 type Row = (&'static str, u8);
 
 #[test]

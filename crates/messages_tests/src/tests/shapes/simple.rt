@@ -9,7 +9,7 @@ use std::cmp::Ordering;
 use std::process::Abort;
 use std::test::Fail;
 
-/// What each row is refused with: its octets, and the number.
+/// The octets of a refused row, and the number of the refusal.
 type Row = (&'static str, u8);
 
 fn digits_again(alloc: Global, octets: &[u8]) -> Result<Vec<u8>, u8> {
@@ -133,7 +133,7 @@ fn relative_identifiers_are_arcs(rt: HostRuntime) -> Result<(), Fail> {
     Ok(())
 }
 
-// How many characters a NumericString has that is made of these.
+// Returns the number of characters of a NumericString with these octets, and whether it is empty.
 fn digits(octets: &[u8]) -> Result<(u32, bool), u8> {
     match NumericStringRef::new(octets) {
         Ok(number) => Ok((number.len().value(), number.is_empty())),
@@ -141,7 +141,7 @@ fn digits(octets: &[u8]) -> Result<(u32, bool), u8> {
     }
 }
 
-// The same as a text, and as it is shown.
+// Returns a NumericString with these octets as it is shown, and as a text.
 fn shown_digits(alloc: Global, octets: &[u8]) -> Result<String, AllocError> {
     match NumericStringRef::new(octets) {
         Ok(number) => format!(in alloc; "{number} {number:?} {}", number.as_str()),
@@ -149,7 +149,7 @@ fn shown_digits(alloc: Global, octets: &[u8]) -> Result<String, AllocError> {
     }
 }
 
-// The order of two VisibleStrings that are made of these, and whether they are equal.
+// Returns the order of two VisibleStrings with these octets, and whether they are equal.
 fn compared_texts(first: &[u8], second: &[u8]) -> Result<(Ordering, bool), u8> {
     match (VisibleStringRef::new(first), VisibleStringRef::new(second)) {
         (Ok(first), Ok(second)) => compared(&first, &second),
@@ -158,7 +158,7 @@ fn compared_texts(first: &[u8], second: &[u8]) -> Result<(Ordering, bool), u8> {
     }
 }
 
-// The encoding of a RELATIVE-OID that is made of these octets.
+// Returns the encoding of a RELATIVE-OID with these octets.
 fn encoded_arcs(alloc: Global, octets: &[u8]) -> Result<Vec<u8>, u8> {
     match RelativeOidRef::from_bytes(octets) {
         Ok(arcs) => numbered(arcs.to_der(alloc)),
@@ -232,7 +232,7 @@ fn they_are_fields_items_and_alternatives(rt: HostRuntime) -> Result<(), Fail> {
     Ok(())
 }
 
-// The text of the field that may be absent, and how many lines there are.
+// Returns whether the optional text is present, and the number of lines.
 fn shown(alloc: Global, octets: &[u8]) -> Result<(bool, usize), u8> {
     let notes = numbered(Notes::from_der(alloc, octets))?;
     let lines = numbered(notes.lines().count(alloc))?;

@@ -10,10 +10,10 @@ use std::cmp::Ordering;
 use std::process::Abort;
 use std::test::Fail;
 
-/// What each row is refused with: its octets, and the number.
+/// The octets of a refused row, and the number of the refusal.
 type Row = (&'static str, u8);
 
-/// A list of two numbers at most.
+/// A list of at most two numbers.
 type Two<'a> = Constrained<ListRef<'a, u8>, HasSize<0, 2>>;
 
 fn few_again(alloc: Global, octets: &[u8]) -> Result<Vec<u8>, u8> {
@@ -117,7 +117,7 @@ fn lists_of_a_size_are_made(rt: HostRuntime) -> Result<(), Fail> {
     Ok(())
 }
 
-// How many items the lists have, 0 of one that is absent.
+// Returns the numbers of items of the lists, 0 for an absent one.
 fn counted(alloc: Global, octets: &[u8]) -> Result<(usize, usize, usize), u8> {
     let sizes = numbered(Sizes::from_der(alloc, octets))?;
     let few = numbered(sizes.few().items().count(alloc))?;

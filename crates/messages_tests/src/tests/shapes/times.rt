@@ -8,7 +8,7 @@ use der_time::DateTime;
 use std::alloc::Global;
 use std::test::Fail;
 
-/// What each row is refused with: its octets, and the number.
+/// The octets of a refused row, and the number of the refusal.
 type Row = (&'static str, u8);
 
 /// A time with a fraction, and one without.
@@ -42,9 +42,9 @@ fn times_have_a_fraction_or_none(rt: HostRuntime) -> Result<(), Fail> {
     Ok(())
 }
 
-// Midnight as hour 24, fractions that end with 0 or have no digit, another mark, no Z, no seconds, an
-// offset, a small z, an octet that is no digit, a year before 1970, a day that the month lacks, 13
-// digits, a year that is no number, no octets; another tag; a length
+// Midnight as hour 24, fractions that end with 0 or have no digit, another mark, no Z, no
+// seconds, an offset, a small z, an octet that is no digit, a year before 1970, a day that the
+// month lacks, 13 digits, a year that is no number, no octets; another tag; a length
 #[test]
 fn other_times_are_refused(rt: HostRuntime) -> Result<(), Fail> {
     let alloc = rt.alloc();
@@ -79,7 +79,7 @@ fn second() -> Result<DateTime, u8> {
     numbered(DateTime::new(1992, 7, 22, 13, 21, 0))
 }
 
-// The encoding of a time with these contents octets.
+// Returns the encoding of a time with these contents octets.
 fn encoded(alloc: Global, contents: &str) -> Result<Vec<u8>, u8> {
     match FractionalTimeRef::from_bytes(contents.as_bytes()) {
         Ok(time) => numbered(time.to_der(alloc)),
@@ -87,8 +87,8 @@ fn encoded(alloc: Global, contents: &str) -> Result<Vec<u8>, u8> {
     }
 }
 
-// The fractions of a session's begin and of its end, how many pauses it has, and whether its copy is
-// equal.
+// Returns the lengths of the fractions of a session's start and end, the number of its pauses,
+// and whether its copy is equal to it.
 fn shown(alloc: Global, octets: &[u8]) -> Result<(usize, Option<usize>, usize, bool), u8> {
     let session = numbered(Session::from_der(alloc, octets))?;
     let end = match session.end() {

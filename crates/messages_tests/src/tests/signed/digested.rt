@@ -43,7 +43,7 @@ fn encrypted_copied(alloc: Global, octets: &[u8]) -> Result<bool, u8> {
     read_and_copied::<EncryptedData>(alloc, octets)
 }
 
-// The version, the content, and the digest.
+// Returns the version, the content, and the digest.
 fn digested_told(alloc: Global, octets: &[u8]) -> Result<(u8, Option<Vec<u8>>, Vec<u8>), u8> {
     match DigestedData::from_der(alloc, octets) {
         Ok(digested) => {
@@ -58,8 +58,8 @@ fn digested_told(alloc: Global, octets: &[u8]) -> Result<(u8, Option<Vec<u8>>, V
     }
 }
 
-// The version, the contents octets of the cipher's identifier, how many octets are encrypted, and how many
-// attributes there are.
+// Returns the version, the contents octets of the cipher's identifier, the number of encrypted
+// octets, and the number of attributes.
 fn encrypted_told(
     alloc: Global,
     octets: &[u8],

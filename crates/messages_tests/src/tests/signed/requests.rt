@@ -10,8 +10,8 @@ use std::cmp::Ordering;
 use std::process::Abort;
 use std::test::Fail;
 
-/// With a password and two extensions: `openssl req -new -config req.cnf -key ca.key -outform DER`, where
-/// the configuration has challengePassword, subjectAltName and keyUsage.
+/// With a password and two extensions: `openssl req -new -config req.cnf -key ca.key -outform
+/// DER`. The configuration has challengePassword, subjectAltName and keyUsage.
 const EXTENDED: &str =
     "3081e03081930201003011310f300d06035504030c066261726c6579302a300506032b657003210090d217091320475e7ad2ecce63fc9760cf719a2189ec7ff2e5d7d79c979a1132a04f301406092a864886f70d01090731070c05666c6f7572303706092a864886f70d01090e312a302830190603551d1104123010820e6261726c65792e6578616d706c65300b0603551d0f040403020780300506032b657003410077eca9f13f50d4bf6c8c56d64c3e4f5ee0fd65836df37f7a0a6e3bae72e4e5780dbfa538576f0110b3c81adab3294ff94283dd6ec28f0ad8ea027f368e82e501";
 
@@ -35,8 +35,8 @@ fn request_copied(alloc: Global, octets: &[u8]) -> Result<bool, u8> {
     read_and_copied::<CertificationRequest>(alloc, octets)
 }
 
-// The version, how many parts the subject's name has, the bits of the key, how many attributes there are,
-// and the bits of the signature.
+// Returns the version, the number of parts of the subject's name, the number of bits of the key,
+// the number of attributes, and the number of bits of the signature.
 fn request_told(alloc: Global, octets: &[u8]) -> Result<(u8, usize, usize, usize, usize), u8> {
     match CertificationRequest::from_der(alloc, octets) {
         Ok(request) => {
@@ -56,14 +56,15 @@ fn request_told(alloc: Global, octets: &[u8]) -> Result<(u8, usize, usize, usize
     }
 }
 
-// The contents octets of an attribute's type, and the encoding of its first value.
+// Returns the contents octets of an attribute's type, and the encoding of its first value.
 fn type_and_value(alloc: Global, attribute: &Attribute) -> Result<(Vec<u8>, Vec<u8>), u8> {
     let kind = copied(alloc, attribute.type_().as_bytes())?;
     let value = first_value(alloc, attribute)?;
     Ok((kind, value))
 }
 
-// The same of the attribute at that place.
+// Returns the contents octets of the type of the attribute at an index, and the encoding of its
+// first value.
 fn attribute_told(alloc: Global, octets: &[u8], place: usize) -> Result<(Vec<u8>, Vec<u8>), u8> {
     match CertificationRequest::from_der(alloc, octets) {
         Ok(request) => {

@@ -20,8 +20,8 @@ use std::test::Fail;
 const NAMED: &str =
     "3082017c06092a864886f70d010702a082016d30820169020101310d300b0609608648016503040201301406092a864886f70d010701a0070405666c6f75723182013d308201390201013014300f310d300b06035504030c046d696c6c020102300b0609608648016503040201a081bc301806092a864886f70d010903310b06092a864886f70d010701301c06092a864886f70d010905310f170d3236313132373136303430385a302f06092a864886f70d01090431220420f55f97cfa0dd5f18c1ac07d2c361b198f19fd8522032faae0451a1500f1c5f503051060b2a864886f70d010910022f31423040303e303c0420e75b6b3a9cbb31df8fc26447bda6347297db376129ce02b33ea0d9252f25585e30183013a411300f310d300b06035504030c046d696c6c020102300a06082a8648ce3d0403020446304402203cc48bd74c938718242974c6ab4e82909523bd1e302b0900d3ce8282052584e402206826c27e1aa3b39b19d2380fc7f99005ff9a5afa7333e61995097d537a61e8b5";
 
-/// A signer that its key names, with no attributes: `openssl cms -sign -in text -binary -nodetach
-/// -signer oats.pem -inkey oats.key -keyid -noattr -nocerts -outform DER`.
+/// A signer identified by its key, with no attributes: `openssl cms -sign -in text -binary
+/// -nodetach -signer oats.pem -inkey oats.key -keyid -noattr -nocerts -outform DER`.
 const BY_KEY: &str =
     "3081b706092a864886f70d010702a081a93081a6020103310d300b0609608648016503040201301406092a864886f70d010701a0070405666c6f7572317c307a02010380140813afd67116762e86f934861382ed3b8604de7b300b0609608648016503040201300a06082a8648ce3d040302044630440220020e272837726c0768056ada49cd027732c72c57fb8807c29bbeb36dc7b5a35f0220757e2df5bf3105e62875acf13a9ceca531b9b670b117a61caf8c0b450ff1cc26";
 
@@ -61,7 +61,7 @@ fn certificate_v2_copied(alloc: Global, octets: &[u8]) -> Result<bool, u8> {
     read_and_copied::<SigningCertificateV2>(alloc, octets)
 }
 
-// The encoding of the first signer of the message.
+// Returns the encoding of the first signer of the message.
 fn signer_of(alloc: Global, octets: &[u8]) -> Result<Vec<u8>, u8> {
     let content = content_of(alloc, octets)?;
     match SignedData::from_der(alloc, content.as_slice()) {
@@ -74,7 +74,7 @@ fn signer_of(alloc: Global, octets: &[u8]) -> Result<Vec<u8>, u8> {
     }
 }
 
-// The encoding of a signer's attributes as a SET, which is what is signed.
+// Returns the encoding of a signer's attributes as a SET, which is the form that is signed.
 fn attributes_of(alloc: Global, octets: &[u8]) -> Result<Vec<u8>, u8> {
     match SignerInfo::from_der(alloc, octets) {
         Ok(signer) => match signer.signed_attrs() {
@@ -85,7 +85,7 @@ fn attributes_of(alloc: Global, octets: &[u8]) -> Result<Vec<u8>, u8> {
     }
 }
 
-// The encoding of the first value of a signer's first attribute that is not signed.
+// Returns the encoding of the first value of a signer's first unsigned attribute.
 fn countersignature_of(alloc: Global, octets: &[u8]) -> Result<Vec<u8>, u8> {
     match SignerInfo::from_der(alloc, octets) {
         Ok(signer) => {
@@ -102,7 +102,7 @@ fn countersignature_of(alloc: Global, octets: &[u8]) -> Result<Vec<u8>, u8> {
     }
 }
 
-// The encoding of the first value of the attribute at that place.
+// Returns the encoding of the first value of the attribute at an index.
 fn value_of(alloc: Global, octets: &[u8], place: usize) -> Result<Vec<u8>, u8> {
     match SignedAttributes::from_der(alloc, octets) {
         Ok(attributes) => match attributes.items().get(alloc, place) {
@@ -114,8 +114,9 @@ fn value_of(alloc: Global, octets: &[u8], place: usize) -> Result<Vec<u8>, u8> {
     }
 }
 
-// The version, the octets of the certificate's number or of the key's name, how many attributes are
-// signed, whether some are not, and the octets of the signature.
+// Returns the version, the octets of the certificate's serial number or of the key's identifier,
+// the number of signed attributes, whether there are unsigned ones, and the number of octets of
+// the signature.
 fn signer_told(
     alloc: Global,
     octets: &[u8],
@@ -146,7 +147,7 @@ fn signer_told(
     }
 }
 
-// The year of the time at which it was signed.
+// Returns the year of the signing time.
 fn year_of(alloc: Global, octets: &[u8]) -> Result<u16, u8> {
     match SigningTime::from_der(alloc, octets) {
         Ok(Time::UtcTime(time)) => Ok(time.to_date_time().year()),
@@ -155,7 +156,8 @@ fn year_of(alloc: Global, octets: &[u8]) -> Result<u16, u8> {
     }
 }
 
-/// Whether a certificate is named with an algorithm, the octets of its hash, and those of its number.
+/// Whether the name of a certificate has an algorithm, the number of octets of its hash, and the
+/// octets of its serial number.
 type Told = (bool, usize, Vec<u8>);
 
 fn named_of(alloc: Global, named: &EssCertIdv2) -> Result<Told, u8> {
@@ -170,7 +172,7 @@ fn named_of(alloc: Global, named: &EssCertIdv2) -> Result<Told, u8> {
     ))
 }
 
-// How many certificates are named, and how the first is.
+// Returns the number of named certificates, and the name of the first one.
 fn named_told(alloc: Global, octets: &[u8]) -> Result<(usize, Told), u8> {
     match SigningCertificateV2::from_der(alloc, octets) {
         Ok(named) => {

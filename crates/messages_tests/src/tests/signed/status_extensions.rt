@@ -12,14 +12,14 @@ use std::cmp::Ordering;
 use std::process::Abort;
 use std::test::Fail;
 
-/// A place of a list, its number, and its time.
+/// The location of a list, its number, and its time.
 const LIST: &str =
     "3036a01b1619687474703a2f2f6d696c6c2e6578616d706c652f612e63726ca10402020100a211180f32303236313132373030303030305a";
 
 /// The identifiers of the basic answer and of a nonce.
 const TYPES: &str = "301606092b060105050730010106092b0601050507300102";
 
-/// The issuer CN=mill, and where its answers are.
+/// The issuer CN=mill, and the location of its responder.
 const LOCATOR: &str =
     "3035300f310d300b06035504030c046d696c6c3022302006082b060105050730018614687474703a2f2f6d696c6c2e6578616d706c652f";
 
@@ -59,7 +59,7 @@ fn algorithms_compared(alloc: Global, first: &[u8], second: &[u8]) -> Result<(Or
     read_and_compared::<PreferredSignatureAlgorithms>(alloc, first, second)
 }
 
-// The octets of the list's place and number, and its year.
+// Returns the number of octets of the list's location, the octets of its number, and its year.
 fn list_told(
     alloc: Global,
     octets: &[u8],
@@ -84,7 +84,7 @@ fn list_told(
     }
 }
 
-// How many algorithms there are, and whether the last one names that of the key.
+// Returns the number of algorithms, and whether the last one names the algorithm of the key.
 fn algorithms_told(alloc: Global, octets: &[u8]) -> Result<(usize, bool), u8> {
     match PreferredSignatureAlgorithms::from_der(alloc, octets) {
         Ok(algorithms) => {

@@ -9,7 +9,8 @@ use std::cmp::Ordering;
 use std::process::Abort;
 use std::test::Fail;
 
-/// One certificate, and a nonce: `openssl ocsp -issuer ca.pem -cert barley.pem -reqout request.der`.
+/// One certificate, and a nonce: `openssl ocsp -issuer ca.pem -cert barley.pem -reqout
+/// request.der`.
 const NONCE: &str =
     "30673065303e303c303a300906052b0e03021a050004141dd2f1ee5750656f97110b338c846ee99db6d76704140626271012d69951674cb0484d7d1af9d790eb20020102a2233021301f06092b060105050730010204120410883387645de3917ec5821a32927d1ade";
 
@@ -18,7 +19,7 @@ const NONCE: &str =
 const THREE: &str =
     "3081c03081bd3081ba303c303a300906052b0e03021a050004141dd2f1ee5750656f97110b338c846ee99db6d76704140626271012d69951674cb0484d7d1af9d790eb20020102303c303a300906052b0e03021a050004141dd2f1ee5750656f97110b338c846ee99db6d76704140626271012d69951674cb0484d7d1af9d790eb20020103303c303a300906052b0e03021a050004141dd2f1ee5750656f97110b338c846ee99db6d76704140626271012d69951674cb0484d7d1af9d790eb20020109";
 
-/// A request that is signed, with the signer's certificate: `openssl ocsp -issuer ca.pem -serial 2
+/// A signed request, with the signer's certificate: `openssl ocsp -issuer ca.pem -serial 2
 /// -no_nonce -signer rye.pem -signkey rye.key -reqout request.der`.
 const SIGNED: &str =
     "308201af3054a112a410300e310c300a06035504030c03727965303e303c303a300906052b0e03021a050004141dd2f1ee5750656f97110b338c846ee99db6d76704140626271012d69951674cb0484d7d1af9d790eb20020102a082015530820151300a06082a8648ce3d0403020347003044022057e9cfcb6c757dc0f8c0edc17d07de11ed3c57c4a3235b189d19c1a850c7823602204f8b56ddffd1e997e6bfaaa59e1850ff0baebba6333f02e8737429f52d87e1daa081f93081f63081f33081a6020103300506032b6570300f310d300b06035504030c046d696c6c301e170d3236313132373136303333325a170d3336313132343136303333325a300e310c300a06035504030c037279653059301306072a8648ce3d020106082a8648ce3d030107034200046503210a38711f5ada714682d15632b0ba138cec61ee2d404551bbcc523180ac31fe731d8c07f7b3e1a697848f909582789ead596c3260365d9367e5ae1b8d1e300506032b6570034100559776203a939dafc04894db8ff9cc225ea582b85a84fca4e00c2057f05e1eb3e398c7c4ada98dcd15a984cb9d07cf7affccbbe8531909cb971be19561a7de01";
@@ -35,7 +36,8 @@ fn request_copied(alloc: Global, octets: &[u8]) -> Result<bool, u8> {
     read_and_copied::<OcspRequest>(alloc, octets)
 }
 
-// How many certificates are asked about, and the octets of the last one's number.
+// Returns the number of certificates that the request is about, and the octets of the last one's
+// serial number.
 fn asked_told(alloc: Global, requests: &Requests) -> Result<(usize, Vec<u8>), u8> {
     let count = numbered(requests.items().count(alloc))?;
     match requests.items().get(alloc, count.saturating_sub(1)) {
@@ -48,7 +50,7 @@ fn asked_told(alloc: Global, requests: &Requests) -> Result<(usize, Vec<u8>), u8
     }
 }
 
-// How many certificates a signature has.
+// Returns the number of certificates of a signature.
 fn certificates_of(alloc: Global, signature: &Signature) -> Result<usize, u8> {
     match signature.certs() {
         Some(certificates) => numbered(certificates.items().count(alloc)),
@@ -56,8 +58,9 @@ fn certificates_of(alloc: Global, signature: &Signature) -> Result<usize, u8> {
     }
 }
 
-// The version, how many certificates are asked about, the octets of the last one's number, how many
-// extensions there are, whether the request has a name, and how many certificates its signature has.
+// Returns the version, the number of certificates that the request is about, the octets of the
+// last one's serial number, the number of extensions, whether the request has a name, and the
+// number of certificates of its signature.
 fn request_told(
     alloc: Global,
     octets: &[u8],

@@ -9,8 +9,8 @@ use std::alloc::Global;
 use std::process::Abort;
 use std::test::Fail;
 
-// Whether the extension is critical, and the octets of its value; the number 0 where the certificate has no
-// extensions.
+// Returns whether the extension is critical, and the octets of its value. Returns the number 0 if
+// the certificate has no extensions.
 fn extension_told(
     alloc: Global,
     octets: &[u8],

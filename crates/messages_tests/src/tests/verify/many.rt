@@ -10,22 +10,24 @@ use std::process::Abort;
 use std::test::Fail;
 use std::time::{CpuClock, Duration};
 
-/// An identifier (1.2.N, with N from 128 on) and no value: 30 07, 06 03 2A hi lo, 04 00.
+/// Adds an extension with an identifier (1.2.N, with N from 128 on) and no value: 30 07, 06 03 2A
+/// hi lo, 04 00.
 fn put_extension(octets: &mut Vec<u8>, number: u16) -> Result<(), AllocError> {
     let high = (0x80 | (number >> 7 & 0x7f)) as u8;
     let low = (number & 0x7f) as u8;
     octets.extend_from_slice(&[0x30, 0x07, 0x06, 0x03, 0x2a, high, low, 0x04, 0x00])
 }
 
-/// A tag and a length of two octets.
+/// Adds a tag and a length of two octets.
 fn put_header(octets: &mut Vec<u8>, tag: u8, length: usize) -> Result<(), AllocError> {
     let high = (length >> 8 & 0xff) as u8;
     let low = (length & 0xff) as u8;
     octets.extend_from_slice(&[tag, 0x82, high, low])
 }
 
-/// The octets of a certificate with these numbers of extensions, one behind another, in the place of
-/// those of `CERTIFICATE`: its first fields stand at 7 to 134, and what is behind the signed part at 227.
+/// Returns the octets of a certificate that has extensions with these numbers in place of those
+/// of `CERTIFICATE`. The first fields of `CERTIFICATE` are at 7 to 134, and the octets after the
+/// signed part begin at 227.
 fn certificate_with(alloc: Global, numbers: &[u16]) -> Result<Vec<u8>, Fail> {
     let old = hex::decode(alloc, CERTIFICATE)?;
     let fields = old.get(7..134).ok_or("no fields")?;
@@ -46,7 +48,7 @@ fn certificate_with(alloc: Global, numbers: &[u16]) -> Result<Vec<u8>, Fail> {
     Ok(octets)
 }
 
-/// So many numbers, from 128 on.
+/// Returns `count` numbers, from 128 on.
 fn numbers_to(alloc: Global, count: u16) -> Result<Vec<u16>, AllocError> {
     let mut numbers = Vec::new(alloc);
     for number in 0..count {
@@ -55,7 +57,8 @@ fn numbers_to(alloc: Global, count: u16) -> Result<Vec<u16>, AllocError> {
     Ok(numbers)
 }
 
-/// The processor time of asking, so many times, whether a certificate has an extension that stands twice.
+/// Returns the processor time of asking `times` times whether a certificate has an extension
+/// twice.
 fn time_to_ask(
     rt: &impl CpuClock,
     alloc: Global,
@@ -72,7 +75,7 @@ fn time_to_ask(
     Ok(end.saturating_sub(begin))
 }
 
-/// The same of the certificate of these octets.
+/// Returns that processor time for the certificate in these octets.
 fn time_of(rt: &impl CpuClock, alloc: Global, octets: &[u8], times: u32) -> Result<Duration, Fail> {
     match Certificate::from_der(alloc, octets) {
         Ok(certificate) => time_to_ask(rt, alloc, &certificate, times),
@@ -80,7 +83,7 @@ fn time_of(rt: &impl CpuClock, alloc: Global, octets: &[u8], times: u32) -> Resu
     }
 }
 
-/// The rules that the certificate of these octets breaks.
+/// Returns the rules that the certificate in these octets breaks.
 fn rules_of(alloc: Global, octets: &[u8]) -> Result<Vec<CertificateRule>, Fail> {
     match Certificate::from_der(alloc, octets) {
         Ok(certificate) => match check_certificate(alloc, &certificate) {
@@ -91,9 +94,9 @@ fn rules_of(alloc: Global, octets: &[u8]) -> Result<Vec<CertificateRule>, Fail> 
     }
 }
 
-/// Where n extensions take n log n comparisons, asking once of 2,048 takes little more than asking 16
-/// times of 128; where each is compared with all behind it, many times as much. The better of three trials
-/// says it, since other programs run beside.
+/// If n extensions take n log n comparisons, asking once about 2,048 takes little more time than
+/// asking 16 times about 128. If each is compared with all those after it, it takes many times as
+/// much. The best of three trials decides, since other programs run at the same time.
 #[test]
 fn many_extensions_take_little_more_time_each(rt: HostRuntime) -> Result<(), Fail> {
     let alloc = rt.alloc();

@@ -8,7 +8,7 @@ use std::alloc::Global;
 use std::process::Abort;
 use std::test::Fail;
 
-// Whether the names that two encodings have match.
+// Returns whether the names of two encodings match.
 fn matching_told<'a>(alloc: Global, first: &'a [u8], second: &'a [u8]) -> Result<bool, u8> {
     match (Name::from_der(alloc, first), Name::from_der(alloc, second)) {
         (Ok(first), Ok(second)) => Ok(names_match(alloc, &first, &second)),

@@ -14,7 +14,7 @@ use std::alloc::Global;
 use std::process::Abort;
 use std::test::Fail;
 
-// The rules that the certificate breaks.
+// Returns the rules that the certificate breaks.
 fn rules_told(alloc: Global, octets: &[u8]) -> Result<Vec<CertificateRule>, u8> {
     match Certificate::from_der(alloc, octets) {
         Ok(certificate) => match check_certificate(alloc, &certificate) {
@@ -25,7 +25,7 @@ fn rules_told(alloc: Global, octets: &[u8]) -> Result<Vec<CertificateRule>, u8> 
     }
 }
 
-// Whether the certificate breaks the rule, and no other.
+// Returns whether the certificate breaks the rule, and no other.
 fn is_alone(alloc: Global, octets: &[u8], rule: CertificateRule) -> Result<bool, u8> {
     match Certificate::from_der(alloc, octets) {
         Ok(certificate) => {
@@ -40,7 +40,7 @@ fn is_alone(alloc: Global, octets: &[u8], rule: CertificateRule) -> Result<bool,
     }
 }
 
-// Whether the algorithm within is the one outside.
+// Returns whether the algorithm in the signed part is the one outside.
 fn agreement_told(alloc: Global, octets: &[u8]) -> Result<bool, u8> {
     match Certificate::from_der(alloc, octets) {
         Ok(certificate) => Ok(algorithms_agree(&certificate)),

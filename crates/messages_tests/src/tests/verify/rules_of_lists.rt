@@ -14,7 +14,7 @@ use std::alloc::Global;
 use std::process::Abort;
 use std::test::Fail;
 
-// The rules that the list breaks.
+// Returns the rules that the list breaks.
 fn rules_told(alloc: Global, octets: &[u8]) -> Result<Vec<ListRule>, u8> {
     match CertificateList::from_der(alloc, octets) {
         Ok(list) => match check_list(alloc, &list) {
@@ -25,7 +25,7 @@ fn rules_told(alloc: Global, octets: &[u8]) -> Result<Vec<ListRule>, u8> {
     }
 }
 
-// Whether the list breaks the rule, and no other.
+// Returns whether the list breaks the rule, and no other.
 fn is_alone(alloc: Global, octets: &[u8], rule: ListRule) -> Result<bool, u8> {
     match CertificateList::from_der(alloc, octets) {
         Ok(list) => {
@@ -40,7 +40,7 @@ fn is_alone(alloc: Global, octets: &[u8], rule: ListRule) -> Result<bool, u8> {
     }
 }
 
-// Whether the algorithm within is the one outside.
+// Returns whether the algorithm in the signed part is the one outside.
 fn agreement_told(alloc: Global, octets: &[u8]) -> Result<bool, u8> {
     match CertificateList::from_der(alloc, octets) {
         Ok(list) => Ok(list_algorithms_agree(&list)),

@@ -17,7 +17,7 @@ use std::alloc::Global;
 use std::process::Abort;
 use std::test::Fail;
 
-// What is signed of a certificate.
+// Returns the signed part of a certificate.
 fn signed_of_certificate(alloc: Global, octets: &[u8]) -> Result<Vec<u8>, u8> {
     match octets_of_tbs_certificate(octets) {
         Ok(signed) => copied(alloc, signed),
@@ -25,7 +25,7 @@ fn signed_of_certificate(alloc: Global, octets: &[u8]) -> Result<Vec<u8>, u8> {
     }
 }
 
-// What is signed of a list.
+// Returns the signed part of a list.
 fn signed_of_list(alloc: Global, octets: &[u8]) -> Result<Vec<u8>, u8> {
     match octets_of_tbs_cert_list(octets) {
         Ok(signed) => copied(alloc, signed),
@@ -33,7 +33,7 @@ fn signed_of_list(alloc: Global, octets: &[u8]) -> Result<Vec<u8>, u8> {
     }
 }
 
-// What is signed of a request.
+// Returns the signed part of a request.
 fn signed_of_request(alloc: Global, octets: &[u8]) -> Result<Vec<u8>, u8> {
     match octets_of_certification_request_info(octets) {
         Ok(signed) => copied(alloc, signed),
@@ -41,7 +41,7 @@ fn signed_of_request(alloc: Global, octets: &[u8]) -> Result<Vec<u8>, u8> {
     }
 }
 
-// What is signed of an answer.
+// Returns the signed part of a response.
 fn signed_of_answer(alloc: Global, octets: &[u8]) -> Result<Vec<u8>, u8> {
     match octets_of_tbs_response_data(octets) {
         Ok(signed) => copied(alloc, signed),
@@ -49,7 +49,7 @@ fn signed_of_answer(alloc: Global, octets: &[u8]) -> Result<Vec<u8>, u8> {
     }
 }
 
-// The encoding of the first field that is read of a request.
+// Returns the encoding of the first field of a request that is read.
 fn request_again(alloc: Global, octets: &[u8]) -> Result<Vec<u8>, u8> {
     match CertificationRequest::from_der(alloc, octets) {
         Ok(request) => numbered(request.certification_request_info().to_der(alloc)),
@@ -57,7 +57,7 @@ fn request_again(alloc: Global, octets: &[u8]) -> Result<Vec<u8>, u8> {
     }
 }
 
-// The encoding of the first field that is read of an answer.
+// Returns the encoding of the first field of a response that is read.
 fn answer_again(alloc: Global, octets: &[u8]) -> Result<Vec<u8>, u8> {
     match BasicOcspResponse::from_der(alloc, octets) {
         Ok(answer) => numbered(answer.tbs_response_data().to_der(alloc)),
@@ -65,7 +65,7 @@ fn answer_again(alloc: Global, octets: &[u8]) -> Result<Vec<u8>, u8> {
     }
 }
 
-// The encoding that stands first.
+// Returns the first encoding.
 fn first_told(alloc: Global, octets: &[u8]) -> Result<Vec<u8>, u8> {
     match first_field(octets) {
         Ok(first) => copied(alloc, first),
@@ -73,7 +73,7 @@ fn first_told(alloc: Global, octets: &[u8]) -> Result<Vec<u8>, u8> {
     }
 }
 
-// The encoding of the first field that is read of a certificate.
+// Returns the encoding of the first field of a certificate that is read.
 fn certificate_again(alloc: Global, octets: &[u8]) -> Result<Vec<u8>, u8> {
     match Certificate::from_der(alloc, octets) {
         Ok(certificate) => numbered(certificate.tbs_certificate().to_der(alloc)),
@@ -81,7 +81,7 @@ fn certificate_again(alloc: Global, octets: &[u8]) -> Result<Vec<u8>, u8> {
     }
 }
 
-// The encoding of the first field that is read of a list.
+// Returns the encoding of the first field of a list that is read.
 fn list_again(alloc: Global, octets: &[u8]) -> Result<Vec<u8>, u8> {
     match CertificateList::from_der(alloc, octets) {
         Ok(list) => numbered(list.tbs_cert_list().to_der(alloc)),

@@ -8,7 +8,7 @@ use der_verify::sizes_hold;
 use std::alloc::{AllocError, Global};
 use std::test::Fail;
 
-/// The encoding of a name of one attribute, with so many octets in its string.
+/// Returns the encoding of a name of one attribute, with `count` octets in its string.
 fn name_of(
     alloc: Global,
     type_: &[u8],
@@ -28,7 +28,7 @@ fn name_of(
     encoding(alloc, 0x30, part.as_slice())
 }
 
-/// A header with a length of two octets, or of one where that is the fewest, and contents octets.
+/// Returns a header, with the fewest length octets, and contents octets.
 fn encoding(alloc: Global, tag: u8, contents: &[u8]) -> Result<Vec<u8>, AllocError> {
     let mut octets = Vec::new(alloc);
     octets.push(tag)?;

@@ -9,7 +9,7 @@ use std::alloc::Global;
 use std::process::Abort;
 use std::test::Fail;
 
-// The encoding of a time, its seconds, and whether its date and time is this one.
+// Returns the encoding of a time, its seconds, and whether its date and time is the given one.
 fn time_told(
     alloc: Global,
     year: u16,
@@ -26,7 +26,7 @@ fn time_told(
     }
 }
 
-// Whether the certificate is valid at a moment.
+// Returns whether the certificate is valid at a moment.
 fn validity_told(alloc: Global, octets: &[u8], moment: u64) -> Result<bool, u8> {
     match Certificate::from_der(alloc, octets) {
         Ok(certificate) => Ok(holds_at(certificate.tbs_certificate().validity(), moment)),

@@ -7,7 +7,7 @@ use certview_text::{Asked, Fault, Label, Outcome, View};
 use std::alloc::Global;
 use std::test::Fail;
 
-/// A block with this label, of a message as hex digits.
+/// Returns a block with this label and a message that is given as hex digits.
 pub fn block(alloc: Global, label: &str, message: &str) -> Result<String, Fail> {
     let octets = hex::decode(alloc, message)?;
     let digits = STANDARD.encode(alloc, octets.as_slice())?;

@@ -8,7 +8,7 @@ use crate::tests::certview::{assert_contains, written};
 use certview_text::{Kind, kind_of};
 use std::test::Fail;
 
-/// A private key of DSA.
+/// A DSA private key.
 const DSA_PRIVATE: Message = Message {
     kind: Kind::DsaPrivateKey,
     octets: "30270201000212010000000000000000000000000000000001020203f1020103020301e24002020141",
@@ -30,7 +30,8 @@ fn knows_the_label(rt: HostRuntime) -> Result<(), Fail> {
     assert_label(&rt, rt.alloc(), &DSA_PRIVATE, "DSA PRIVATE KEY")
 }
 
-/// Of INTEGERs alone: six are a key of DSA, five or seven those of a key of RSA that is refused.
+/// If all fields are INTEGERs, six of them are a DSA key; five or seven are an RSA key, which is
+/// refused.
 #[test]
 fn tells_the_kind_by_how_many_numbers_there_are(rt: HostRuntime) -> Result<(), Fail> {
     let rows: [(&str, Kind); 8] = [
@@ -59,7 +60,7 @@ fn tells_the_kind_by_how_many_numbers_there_are(rt: HostRuntime) -> Result<(), F
     Ok(())
 }
 
-/// A field that is no number is told by its name.
+/// The error names a field that is no number.
 #[test]
 fn names_the_field_of_a_fault(rt: HostRuntime) -> Result<(), Fail> {
     let mut octets = hex::decode(rt.alloc(), DSA_PRIVATE.octets)?;

@@ -5,7 +5,7 @@ use crate::tests::certview::{assert_contains, written};
 use certview_text::{Fault, Kind, kind_of};
 use std::test::Fail;
 
-/// Beginnings of messages in BER, each with an indefinite length.
+/// The first octets of messages in BER, each with an indefinite length.
 const ROWS: [(&str, Kind); 6] = [
     ("308006092a864886f70d010702a0803080020101", Kind::Cms),
     ("3080020103308006092a864886f70d010701a0802480", Kind::Pkcs12),
@@ -27,7 +27,7 @@ fn tells_the_kind_of_ber(rt: HostRuntime) -> Result<(), Fail> {
     Ok(())
 }
 
-/// The fault is that of the message as a whole.
+/// The error is one of the message as a whole.
 #[test]
 fn says_that_ber_is_not_read(rt: HostRuntime) -> Result<(), Fail> {
     for (digits, _) in ROWS {
@@ -46,7 +46,7 @@ fn says_that_ber_is_not_read(rt: HostRuntime) -> Result<(), Fail> {
     Ok(())
 }
 
-/// A field with an indefinite length is told by its name.
+/// The error names a field with an indefinite length.
 #[test]
 fn names_the_field_that_is_in_ber(rt: HostRuntime) -> Result<(), Fail> {
     let mut octets = hex::decode(rt.alloc(), ED25519)?;

@@ -3,7 +3,8 @@
 use certview_text::FieldName;
 use std::test::Fail;
 
-/// Each field is found by its own name: no two names are alike, and they stand in the order of the fields.
+/// Each field is found by its name. No two names are equal, and they are in the order of the
+/// fields.
 #[test]
 fn each_field_has_a_name_of_its_own(rt: HostRuntime) -> Result<(), Fail> {
     for (index, name) in FieldName::names(rt.alloc())?.iter().enumerate() {

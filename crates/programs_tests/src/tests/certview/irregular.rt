@@ -7,7 +7,7 @@ use std::alloc::Global;
 use std::process::Abort;
 use std::test::Fail;
 
-/// Asserts that a line is shown of octets, and whether a part of them is none of what it is to be.
+/// Asserts that a line is shown for octets, and whether a part of them is invalid for its type.
 pub fn assert_shown(
     rt: &impl Abort,
     alloc: Global,

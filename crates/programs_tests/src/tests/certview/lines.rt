@@ -160,7 +160,7 @@ const MESSAGES: [(&str, &str); 47] = [
     ("holdinstructioncode", "06072a8648ce380202"),
 ];
 
-/// What a run over memory answers and writes.
+/// Returns the result of a run over memory and the octets that it writes.
 fn answers(alloc: Global, text: &[u8]) -> (Result<(), Fault>, Vec<u8>) {
     let mut written = Vec::new(alloc);
     let mut input = LineReader::new(text, u64::MAX);
@@ -192,7 +192,7 @@ fn each_message_comes_to_itself(rt: HostRuntime) -> Result<(), Fail> {
     Ok(())
 }
 
-/// Each beginning of the octets is refused for those that are missing.
+/// Asserts that each proper prefix of the octets is refused because octets are missing.
 fn refuses_beginnings(
     rt: &impl Abort,
     alloc: Global,

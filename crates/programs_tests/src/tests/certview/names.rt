@@ -6,7 +6,8 @@ use certview_text::{Kind, shown};
 use std::alloc::Global;
 use std::test::Fail;
 
-/// The certificate of `AUTHORITY` with other octets in the place of some: each `(place, octets)`.
+/// Returns the text of the certificate `AUTHORITY` with some octets replaced: each `(place,
+/// octets)`.
 fn with(alloc: Global, changes: &[(usize, &[u8])]) -> Result<String, Fail> {
     let mut octets = hex::decode(alloc, AUTHORITY)?;
     for (place, others) in changes {
@@ -21,7 +22,7 @@ fn with(alloc: Global, changes: &[(usize, &[u8])]) -> Result<String, Fail> {
     Ok(shown(alloc, Kind::Certificate, octets.as_slice())?)
 }
 
-/// Where the last value of the issuer's name stands, "Authority", with its header.
+/// The offset of the last value of the issuer's name, "Authority", with its header.
 const VALUE: usize = 65;
 
 #[test]
@@ -102,5 +103,5 @@ fn shows_serial_numbers(rt: HostRuntime) -> Result<(), Fail> {
     Ok(())
 }
 
-/// Where the serial number's octets stand.
+/// The offset of the serial number's octets.
 const SERIAL: usize = 15;

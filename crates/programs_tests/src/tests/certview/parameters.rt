@@ -20,21 +20,21 @@ const CURVE_DOMAIN: Message = Message {
     text: "    0    75  parameters of an elliptic curve\n    2     3  version: 3\n    7     9  field: 1.2.840.10045.1.1 (prime-field)\n   16     4  parameters of the field: 257\n   22     3  a: 1 octets, 0a\n   25     4  b: 2 octets, 0b0b\n   29     6  seed: 3 octets, 0c0c0c\n   35     5  base: 3 octets, 04aabb\n   40    19  order: 131 bits, 0400000000000000000000000000000005\n   59     3  cofactor: 4\n   62    13  hash algorithm: 2.16.840.1.101.3.4.2.1 (sha256)\n",
 };
 
-/// Parameters of DSA.
+/// DSA parameters.
 const DSA: Message = Message {
     kind: Kind::DsaParameters,
     octets: "301b0212010000000000000000000000000000000001020203f1020103",
     text: "    0    29  parameters of DSA\n    2    20  p: 137 bits, 010000000000000000000000000000000001\n   22     4  q: 1009\n   26     3  g: 3\n",
 };
 
-/// Parameters of Diffie-Hellman.
+/// Diffie-Hellman parameters.
 const DH: Message = Message {
     kind: Kind::DhParameters,
     octets: "301c021301000000000000000000000000000000000007020105020200a0",
     text: "    0    30  parameters of Diffie-Hellman\n    2    21  prime: 145 bits, 01000000000000000000000000000000000007\n   23     3  base: 5\n   26     4  length of a private value: 160\n",
 };
 
-/// Parameters of Diffie-Hellman with all fields.
+/// Diffie-Hellman parameters with all fields.
 const X942: Message = Message {
     kind: Kind::X942Parameters,
     octets: "301a02030f42430201060203028b0b02010230080303005eed020129",

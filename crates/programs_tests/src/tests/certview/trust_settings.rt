@@ -6,7 +6,8 @@ use crate::tests::certview::{assert_contains, written, written_so};
 use certview_text::{Asked, Fault, Outcome, View};
 use std::test::Fail;
 
-/// For what the certificate is trusted, for what it is not, its name, an identifier and another setting.
+/// The uses for which the certificate is trusted, those for which it is not, its name, an
+/// identifier and another setting.
 const SETTINGS: &str =
     "3026300a06082b06010505070301a00a06082b060105050703040c046d696c6c0402c0dea1020500";
 
@@ -27,7 +28,8 @@ fn shows_the_settings_behind_a_certificate(rt: HostRuntime) -> Result<(), Fail> 
     Ok(())
 }
 
-/// Without settings it is as any certificate, and its fingerprint is that of the certificate alone.
+/// Without settings it is shown like any certificate. Its fingerprint is that of the certificate
+/// alone.
 #[test]
 fn shows_a_certificate_alone(rt: HostRuntime) -> Result<(), Fail> {
     let view = View {
@@ -50,7 +52,7 @@ fn shows_a_certificate_alone(rt: HostRuntime) -> Result<(), Fail> {
     Ok(())
 }
 
-/// What stands behind a certificate is settings with that label alone.
+/// The octets after a certificate are settings only with that label.
 #[test]
 fn refuses_settings_with_another_label(rt: HostRuntime) -> Result<(), Fail> {
     let both = format!(in rt.alloc(); "{ED25519}{SETTINGS}")?;

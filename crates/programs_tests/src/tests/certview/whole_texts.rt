@@ -7,7 +7,7 @@ use std::alloc::Global;
 use std::process::Abort;
 use std::test::Fail;
 
-/// A message, and what is shown of it.
+/// A message and its text.
 #[derive(Clone, Copy, Debug, PartialEq, Eq)]
 pub struct Message {
     /// Its kind.
@@ -18,8 +18,9 @@ pub struct Message {
     pub text: &'static str,
 }
 
-/// Asserts that this text is shown, and that the tags of its fields tell the kind, but of parameters of
-/// Diffie-Hellman, which are as those of DSA or a key of RSA.
+/// Asserts that this text is shown, and that the tags of the message's fields give its kind. The
+/// kind of Diffie-Hellman parameters is not checked, since their tags are those of DSA parameters
+/// or of an RSA key.
 pub fn assert_text(rt: &impl Abort, alloc: Global, message: &Message) -> Result<(), Fail> {
     let octets = hex::decode(alloc, message.octets)?;
     let text = shown(alloc, message.kind, octets.as_slice())?;
@@ -30,7 +31,8 @@ pub fn assert_text(rt: &impl Abort, alloc: Global, message: &Message) -> Result<
     Ok(())
 }
 
-/// Asserts that each beginning of the message is refused, and an octet after it.
+/// Asserts that each proper prefix of the message, and the message with an octet after it, are
+/// refused.
 pub fn assert_cut_is_refused(
     rt: &impl Abort,
     alloc: Global,

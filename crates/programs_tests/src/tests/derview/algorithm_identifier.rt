@@ -13,7 +13,7 @@ const RSA: &[u8] = &[
 /// id-Ed25519, with no parameters (RFC 8410, section 3).
 const ED25519: &[u8] = &[0x30, 0x05, 0x06, 0x03, 0x2b, 0x65, 0x70];
 
-/// The same with NULL.
+/// id-Ed25519 with NULL.
 const ED25519_NULL: &[u8] = &[0x30, 0x07, 0x06, 0x03, 0x2b, 0x65, 0x70, 0x05, 0x00];
 
 fn numbered<T>(answer: Result<T, Error>) -> Result<T, u8> {
@@ -30,7 +30,7 @@ fn read(alloc: Global, octets: &[u8]) -> Result<AlgorithmIdentifier<'_>, u8> {
     }
 }
 
-/// The number of the refusal of these octets, or 0 where they are read.
+/// Returns the number of the refusal of these octets, or 0 if they are read.
 fn refusal(alloc: Global, octets: &[u8]) -> u8 {
     match read(alloc, octets) {
         Ok(_) => 0,
@@ -38,7 +38,7 @@ fn refusal(alloc: Global, octets: &[u8]) -> u8 {
     }
 }
 
-/// The order of the values that two encodings are read as.
+/// Returns the order of the values of two encodings.
 fn order(alloc: Global, octets: &[u8], others: &[u8]) -> Result<Ordering, u8> {
     match (read(alloc, octets), read(alloc, others)) {
         (Ok(value), Ok(other)) => numbered(value.value_cmp(&other)),

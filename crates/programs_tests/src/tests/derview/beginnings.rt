@@ -5,7 +5,7 @@ use std::alloc::{AllocError, Global};
 use std::process::Abort;
 use std::test::Fail;
 
-/// A line with the first octets of the hex digits.
+/// Returns a line with the first octets of the hex digits.
 fn line(alloc: Global, name: &[u8], digits: &[u8]) -> Result<Vec<u8>, AllocError> {
     let mut line = Vec::new(alloc);
     line.extend_from_slice(name)?;
@@ -18,7 +18,7 @@ fn line(alloc: Global, name: &[u8], digits: &[u8]) -> Result<Vec<u8>, AllocError
     Ok(line)
 }
 
-/// Each beginning of the octets is refused for those that are missing.
+/// Asserts that each proper prefix of the octets is refused because octets are missing.
 fn refuses_beginnings(
     rt: &impl Abort,
     alloc: Global,
