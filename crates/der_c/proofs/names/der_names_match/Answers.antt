@@ -9,6 +9,6 @@ returns-in-Err-from_der c =
 
 pub returns : goal.returns
 returns c = inl (
-    record { number = refl; unchanged = refl },
-    record { one = c.in-Ok.name; other = c.in-Ok-from_der.name; read_one = c.in-Ok.ensures; read_other = c.in-Ok-from_der.ensures; shown = λ p q a b. c.number_of_flag.ensures ∙ ap bit (c.names_match.ensures p q a b) },
-  )
+  record { number = refl; unchanged = refl },
+  record { one = c.in-Ok.name; other = c.in-Ok-from_der.name; read_one = c.in-Ok.ensures; read_other = c.in-Ok-from_der.ensures; shown = λ p q a b. c.number_of_flag.ensures ∙ ap bit (c.names_match.ensures p q a b) },
+)
