@@ -36,7 +36,7 @@ pub fn push_encryption(
 }
 
 /// Returns whether the parameters of an algorithm are a salt and a count: PBES1
-/// (1.2.840.113549.1.5, 1 to 11) and the six algorithms of PKCS #12 (1.2.840.113549.1.12.1).
+/// (below 1.2.840.113549.1.5, up to 11) and PKCS #12 (below 1.2.840.113549.1.12.1).
 fn has_salt_and_count(identifier: &[u8]) -> bool {
     match identifier {
         [front @ .., last] if front == PKCS_5.as_slice() => *last <= 11,

@@ -82,7 +82,8 @@ pub fn curve_bits(alloc: Global, identifier: &[u8]) -> Result<Option<usize>, All
 }
 
 /// Returns the arcs with dots between them. Returns `#` and the octets as digits if an arc
-/// exceeds 64 bits, is not in the fewest octets (X.690 8.19.2), or if the last one is cut short.
+/// exceeds 64 bits, is not in the fewest octets (X.690 8.19.2), or if the last one is cut short, and `#`
+/// alone for no octets.
 fn dotted(alloc: Global, octets: &[u8]) -> Result<String, AllocError> {
     let mut page = Page::new(alloc);
     if push_arcs(&mut page, octets)? {

@@ -84,8 +84,8 @@ pub fn rsa_key<'a>(key: &'a [u8]) -> Result<SubjectPublicKeyInfo<'a>, Error>
 /// C5 and 03 are encoded as 30 07 02 02 00 C5 02 01 03.
 ///
 /// # Errors
-/// `ErrorKind::Length` (7) with the tag of INTEGER for a number of no octets;
-/// `ErrorKind::Overflow` (9) for more octets than a length can count; `ErrorKind::Memory` (1) if
+/// `ErrorKind::Length` (7) with the tag of INTEGER for a number of no octets, or of more octets than a
+/// length can count; `ErrorKind::Overflow` (9) for an encoding of more octets than that; `ErrorKind::Memory` (1) if
 /// memory runs out.
 pub fn rsa_public_key(alloc: Global, modulus: &[u8], exponent: &[u8]) -> Result<Vec<u8>, Error>
     ensures octets { IfOk result (λ octets. octets.items ≡ rsa_public_key_octets modulus.now exponent.now) }

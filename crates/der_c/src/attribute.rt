@@ -75,8 +75,8 @@ pub struct AttributeAt {
     pub fields: AttributePlaces,
 }
 
-/// Reads the Attribute at the front of the octets (RFC 5652 5.3, RFC 2986 4.1), and writes the
-/// byte ranges of its fields. The next attribute of the signer, the request or the private key
+/// Reads the Attribute at the front of the octets (RFC 5652 5.3, RFC 2986 4.1, RFC 5958
+/// section 2), and writes the byte ranges of its fields. The next attribute of the signer, the request or the private key
 /// begins after it.
 ///
 /// Returns 0 and writes the byte ranges to `out`, or returns the number of the first error and

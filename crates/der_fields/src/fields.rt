@@ -1,11 +1,11 @@
-//! Lists of one to eight fields, told in one step (X.680 25).
+//! Lists of one to eight fields (X.680 25).
 //!
-//! `Fields3<A, B, C>` is the list of three fields, and stands wherever a list does; so a SEQUENCE of
+//! `Fields3<A, B, C>` is the list of three fields, and can be used in place of any list: a SEQUENCE of
 //! them is `FieldSequence<Fields3<A, B, C>>`. Its octets are those of `Field<A, Field<B, Field<C,
-//! End>>>`, and what it asks of its fields is asked in one step, where that asks it a field at a time:
-//! a long list is checked soon. A ninth field stands after the eighth: `Fields8<.., Fields2<I, J>>`.
+//! End>>>`. It has the bounds of all its fields in one step, and that list a step a field, so a long
+//! list is checked faster. A ninth field comes after the eighth: `Fields8<.., Fields2<I, J>>`.
 //!
-//! The files of the lists are written by `tools/field_lists.py`.
+//! `tools/asn1` writes the files of the lists.
 
 mod eight;
 mod five;

@@ -19,8 +19,7 @@ pub trait Names {
     /// encode as the type of that name, if there is such a type.
     ///
     /// # Errors
-    /// The first error in the octets; `ErrorKind::Memory` (1) if memory runs out: for a type that
-    /// takes no memory to be read, only for octets that encode a value.
+    /// As `put_canonical` of the type.
     fn put_canonical_of_name(
         alloc: Global,
         name: &[u8],

@@ -253,7 +253,7 @@ impl Header {
     }
 
     /// Reads a header with one identifier octet and two or three length octets, as 30 81 80 and
-    /// 30 82 01 00, if there is one at the position.
+    /// 30 82 01 00, if there is one at the position and four octets or more are left.
     #[inline(always)]
     fn decode_long<'a, R: Source<'a>>(reader: &mut R) -> Option<Header>
         ensures some { IfSome result (λ h.

@@ -7,7 +7,8 @@ ghost use Rattle.der_verify.specs.Bounds.{character_count, fewest, is_id_at, mos
 use der_pkix::name::constants::{ID_DOMAIN_COMPONENT, ID_EMAIL_ADDRESS};
 
 /// Returns whether the text of an attribute of this type may have this number of characters, by
-/// the bounds of RFC 5280 appendix A.1. A type with no bound there may have 1 to 4294967295.
+/// the bounds of RFC 5280 appendix A.1. A type with no bound there may have
+/// up to 4294967295, and at least 1 but for dnQualifier and domainComponent.
 ///
 /// commonName (55 04 03) has 1 to 64 characters, countryName (55 04 06) has 2.
 pub fn may_have(type_: &[u8], characters: usize) -> bool

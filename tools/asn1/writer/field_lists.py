@@ -1,9 +1,8 @@
 """The lists of one to eight fields: src/fields.rt of der_fields and src/fields/*.rt, which differ in nothing but how many fields
 they have.
 
-A list hands on to the `Field` list that is its one member, and its laws are folds of what one field has. A changed source of
-der_fields has all crates above it proved anew. So these files stay as they were before this module wrote them: they have no mark
-in their second line, and src/fields.rt names the script that this module was.
+A list passes each call to the `Field` list that is its one member, and its laws are folds of what one field has. These files
+have no mark in their second line.
 """
 
 from __future__ import annotations
@@ -16,18 +15,18 @@ TYPES = "ABCDEFGH"
 NEW_LINE = "\n        "
 
 ROOT_DOC = """\
-//! Lists of one to eight fields, told in one step (X.680 25).
+//! Lists of one to eight fields (X.680 25).
 //!
-//! `Fields3<A, B, C>` is the list of three fields, and stands wherever a list does; so a SEQUENCE of
+//! `Fields3<A, B, C>` is the list of three fields, and can be used in place of any list: a SEQUENCE of
 //! them is `FieldSequence<Fields3<A, B, C>>`. Its octets are those of `Field<A, Field<B, Field<C,
-//! End>>>`, and what it asks of its fields is asked in one step, where that asks it a field at a time:
-//! a long list is checked soon. A ninth field stands after the eighth: `Fields8<.., Fields2<I, J>>`.
+//! End>>>`. It has the bounds of all its fields in one step, and that list a step a field, so a long
+//! list is checked faster. A ninth field comes after the eighth: `Fields8<.., Fields2<I, J>>`.
 //!
-//! The files of the lists are written by `tools/field_lists.py`.
+//! `tools/asn1` writes the files of the lists.
 """
 
 HEAD = """\
-//! %(title)s of a SEQUENCE, and those after, told in one step.
+//! %(title)s of a SEQUENCE, and those after them.
 
 ghost use Rattle.std.specs.Prelude.{◌≡◌, ◌||◌};
 ghost use Rattle.der_fields.specs.ListMakers.{part_of, field_list};
@@ -50,7 +49,7 @@ use std::cmp::Ordering;
 """
 
 STRUCT = """
-/// %(title)s, and those after.
+/// %(title)s, and those after them.
 #[derive(Clone, Copy, Debug, PartialEq, Eq, Drop)]
 pub struct %(name)s<%(params)s, Rest = End> {
     /// The list.
@@ -75,7 +74,7 @@ impl<%(params)s> %(name)s<%(params)s> {
 }
 
 impl<%(params)s, Rest> %(name)s<%(params)s, Rest> {
-    /// A list of %(these)s, and of those after.
+    /// A list of %(these)s, and of those after them.
     pub fn with_rest(%(arguments)s, rest: Rest) -> %(self)s
         ensures { result.list ≡ %(whole)s }
     {

@@ -1,4 +1,4 @@
-//! Eight fields of a SEQUENCE, and those after, told in one step.
+//! Eight fields of a SEQUENCE, and those after them.
 
 ghost use Rattle.std.specs.Prelude.{◌≡◌, ◌||◌};
 ghost use Rattle.der_fields.specs.ListMakers.{part_of, field_list};
@@ -21,7 +21,7 @@ use der_tlv::{BackWriter, Error, Length, Source, Tag, Writer};
 use std::alloc::Global;
 use std::cmp::Ordering;
 
-/// Eight fields, and those after.
+/// Eight fields, and those after them.
 #[derive(Clone, Copy, Debug, PartialEq, Eq, Drop)]
 pub struct Fields8<A, B, C, D, E, F, G, H, Rest = End> {
     /// The list.
@@ -66,7 +66,7 @@ impl<A, B, C, D, E, F, G, H> Fields8<A, B, C, D, E, F, G, H> {
 }
 
 impl<A, B, C, D, E, F, G, H, Rest> Fields8<A, B, C, D, E, F, G, H, Rest> {
-    /// A list of these fields, and of those after.
+    /// A list of these fields, and of those after them.
     pub fn with_rest(
         first: A,
         second: B,

@@ -1,4 +1,4 @@
-//! Five fields of a SEQUENCE, and those after, told in one step.
+//! Five fields of a SEQUENCE, and those after them.
 
 ghost use Rattle.std.specs.Prelude.{◌≡◌, ◌||◌};
 ghost use Rattle.der_fields.specs.ListMakers.{part_of, field_list};
@@ -21,7 +21,7 @@ use der_tlv::{BackWriter, Error, Length, Source, Tag, Writer};
 use std::alloc::Global;
 use std::cmp::Ordering;
 
-/// Five fields, and those after.
+/// Five fields, and those after them.
 #[derive(Clone, Copy, Debug, PartialEq, Eq, Drop)]
 pub struct Fields5<A, B, C, D, E, Rest = End> {
     /// The list.
@@ -52,7 +52,7 @@ impl<A, B, C, D, E> Fields5<A, B, C, D, E> {
 }
 
 impl<A, B, C, D, E, Rest> Fields5<A, B, C, D, E, Rest> {
-    /// A list of these fields, and of those after.
+    /// A list of these fields, and of those after them.
     pub fn with_rest(
         first: A,
         second: B,

@@ -1,4 +1,4 @@
-//! Four fields of a SEQUENCE, and those after, told in one step.
+//! Four fields of a SEQUENCE, and those after them.
 
 ghost use Rattle.std.specs.Prelude.{◌≡◌, ◌||◌};
 ghost use Rattle.der_fields.specs.ListMakers.{part_of, field_list};
@@ -21,7 +21,7 @@ use der_tlv::{BackWriter, Error, Length, Source, Tag, Writer};
 use std::alloc::Global;
 use std::cmp::Ordering;
 
-/// Four fields, and those after.
+/// Four fields, and those after them.
 #[derive(Clone, Copy, Debug, PartialEq, Eq, Drop)]
 pub struct Fields4<A, B, C, D, Rest = End> {
     /// The list.
@@ -51,7 +51,7 @@ impl<A, B, C, D> Fields4<A, B, C, D> {
 }
 
 impl<A, B, C, D, Rest> Fields4<A, B, C, D, Rest> {
-    /// A list of these fields, and of those after.
+    /// A list of these fields, and of those after them.
     pub fn with_rest(
         first: A,
         second: B,

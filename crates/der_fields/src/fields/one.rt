@@ -1,4 +1,4 @@
-//! One field of a SEQUENCE, and those after, told in one step.
+//! One field of a SEQUENCE, and those after them.
 
 ghost use Rattle.std.specs.Prelude.{◌≡◌, ◌||◌};
 ghost use Rattle.der_fields.specs.ListMakers.{part_of, field_list};
@@ -21,7 +21,7 @@ use der_tlv::{BackWriter, Error, Length, Source, Tag, Writer};
 use std::alloc::Global;
 use std::cmp::Ordering;
 
-/// One field, and those after.
+/// One field, and those after them.
 #[derive(Clone, Copy, Debug, PartialEq, Eq, Drop)]
 pub struct Fields1<A, Rest = End> {
     /// The list.
@@ -46,7 +46,7 @@ impl<A> Fields1<A> {
 }
 
 impl<A, Rest> Fields1<A, Rest> {
-    /// A list of this field, and of those after.
+    /// A list of this field, and of those after them.
     pub fn with_rest(first: A, rest: Rest) -> Fields1<A, Rest>
         ensures { result.list ≡ field first rest }
     {

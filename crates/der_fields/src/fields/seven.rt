@@ -1,4 +1,4 @@
-//! Seven fields of a SEQUENCE, and those after, told in one step.
+//! Seven fields of a SEQUENCE, and those after them.
 
 ghost use Rattle.std.specs.Prelude.{◌≡◌, ◌||◌};
 ghost use Rattle.der_fields.specs.ListMakers.{part_of, field_list};
@@ -21,7 +21,7 @@ use der_tlv::{BackWriter, Error, Length, Source, Tag, Writer};
 use std::alloc::Global;
 use std::cmp::Ordering;
 
-/// Seven fields, and those after.
+/// Seven fields, and those after them.
 #[derive(Clone, Copy, Debug, PartialEq, Eq, Drop)]
 pub struct Fields7<A, B, C, D, E, F, G, Rest = End> {
     /// The list.
@@ -62,7 +62,7 @@ impl<A, B, C, D, E, F, G> Fields7<A, B, C, D, E, F, G> {
 }
 
 impl<A, B, C, D, E, F, G, Rest> Fields7<A, B, C, D, E, F, G, Rest> {
-    /// A list of these fields, and of those after.
+    /// A list of these fields, and of those after them.
     pub fn with_rest(
         first: A,
         second: B,

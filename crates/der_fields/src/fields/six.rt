@@ -1,4 +1,4 @@
-//! Six fields of a SEQUENCE, and those after, told in one step.
+//! Six fields of a SEQUENCE, and those after them.
 
 ghost use Rattle.std.specs.Prelude.{◌≡◌, ◌||◌};
 ghost use Rattle.der_fields.specs.ListMakers.{part_of, field_list};
@@ -21,7 +21,7 @@ use der_tlv::{BackWriter, Error, Length, Source, Tag, Writer};
 use std::alloc::Global;
 use std::cmp::Ordering;
 
-/// Six fields, and those after.
+/// Six fields, and those after them.
 #[derive(Clone, Copy, Debug, PartialEq, Eq, Drop)]
 pub struct Fields6<A, B, C, D, E, F, Rest = End> {
     /// The list.
@@ -60,7 +60,7 @@ impl<A, B, C, D, E, F> Fields6<A, B, C, D, E, F> {
 }
 
 impl<A, B, C, D, E, F, Rest> Fields6<A, B, C, D, E, F, Rest> {
-    /// A list of these fields, and of those after.
+    /// A list of these fields, and of those after them.
     pub fn with_rest(
         first: A,
         second: B,

@@ -1,4 +1,4 @@
-//! Three fields of a SEQUENCE, and those after, told in one step.
+//! Three fields of a SEQUENCE, and those after them.
 
 ghost use Rattle.std.specs.Prelude.{◌≡◌, ◌||◌};
 ghost use Rattle.der_fields.specs.ListMakers.{part_of, field_list};
@@ -21,7 +21,7 @@ use der_tlv::{BackWriter, Error, Length, Source, Tag, Writer};
 use std::alloc::Global;
 use std::cmp::Ordering;
 
-/// Three fields, and those after.
+/// Three fields, and those after them.
 #[derive(Clone, Copy, Debug, PartialEq, Eq, Drop)]
 pub struct Fields3<A, B, C, Rest = End> {
     /// The list.
@@ -46,7 +46,7 @@ impl<A, B, C> Fields3<A, B, C> {
 }
 
 impl<A, B, C, Rest> Fields3<A, B, C, Rest> {
-    /// A list of these fields, and of those after.
+    /// A list of these fields, and of those after them.
     pub fn with_rest(first: A, second: B, third: C, rest: Rest) -> Fields3<A, B, C, Rest>
         ensures { result.list ≡ field first (field second (field third rest)) }
     {

@@ -1,4 +1,4 @@
-//! Two fields of a SEQUENCE, and those after, told in one step.
+//! Two fields of a SEQUENCE, and those after them.
 
 ghost use Rattle.std.specs.Prelude.{◌≡◌, ◌||◌};
 ghost use Rattle.der_fields.specs.ListMakers.{part_of, field_list};
@@ -21,7 +21,7 @@ use der_tlv::{BackWriter, Error, Length, Source, Tag, Writer};
 use std::alloc::Global;
 use std::cmp::Ordering;
 
-/// Two fields, and those after.
+/// Two fields, and those after them.
 #[derive(Clone, Copy, Debug, PartialEq, Eq, Drop)]
 pub struct Fields2<A, B, Rest = End> {
     /// The list.
@@ -46,7 +46,7 @@ impl<A, B> Fields2<A, B> {
 }
 
 impl<A, B, Rest> Fields2<A, B, Rest> {
-    /// A list of these fields, and of those after.
+    /// A list of these fields, and of those after them.
     pub fn with_rest(first: A, second: B, rest: Rest) -> Fields2<A, B, Rest>
         ensures { result.list ≡ field first (field second rest) }
     {
