@@ -1,4 +1,4 @@
-//! What the octets of each type are made of: the components by their names.
+//! The components of each type, by their names.
 //!
 //! Made by tools/asn1.
 
@@ -18,7 +18,7 @@ mod pkcs12;
 mod request;
 mod time_stamp;
 
-/// What stands in octets: a type with components, a list, or a value with no such parts.
+/// The part that octets are: a type with components, a list, or a value without components.
 #[derive(Clone, Copy)]
 pub enum Part {
     /// `Attribute`.
@@ -269,20 +269,20 @@ pub enum Part {
     CrlBag,
     /// `SecretBag`.
     SecretBag,
-    /// A value with no components that have names.
+    /// A value without named components.
     Value,
 }
 
-/// A component: its name in the module, or no name where it is an item of a list or stands after an explicit
-/// tag; the identifier octet that tells it, where it may be absent or is one of several; what it is made of.
+/// A component: its name in the module, empty for an item of a list and for a value after an explicit tag; its
+/// identifier octet, if it may be absent or is one of several; its part.
 #[derive(Clone, Copy)]
 pub struct Component(pub &'static str, pub Option<u8>, pub Part);
 
 impl Part {
-    /// The components, in their order; of a list the one that each item is.
+    /// The components, in their order; for a list one, which each item is.
     ///
-    /// A CHOICE has no octets of its own: it stands here once for each alternative, each time with the
-    /// name of the component, and one of them is there.
+    /// A component that is a CHOICE is listed once for each alternative, each time with the name of the
+    /// component; one of them is present.
     pub fn components(self) -> &'static [Component] {
         match self {
             Part::Attribute => &name::ATTRIBUTE,
@@ -414,7 +414,7 @@ impl Part {
         }
     }
 
-    /// Whether it is a list, of which each item is alike.
+    /// Whether it is a list.
     pub fn is_list(self) -> bool {
         matches!(
             self,

@@ -1,4 +1,4 @@
-//! Where the fields of the types of PkixAlgorithms stand.
+//! Byte ranges of the fields of the types of PkixAlgorithms.
 //!
 //! Made by tools/asn1 from algorithm.asn1.
 

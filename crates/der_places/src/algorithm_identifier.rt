@@ -21,7 +21,7 @@ use der_pkix::AlgorithmIdentifier;
 pub struct AlgorithmIdentifierPlaces {
     /// `algorithm`, `OBJECT IDENTIFIER`.
     pub oid: Place,
-    /// `parameters`, `ANY DEFINED BY algorithm OPTIONAL`; no octets where it is absent.
+    /// `parameters`, `ANY DEFINED BY algorithm OPTIONAL`; empty if it is absent.
     pub parameters: Place,
 }
 

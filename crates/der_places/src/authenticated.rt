@@ -1,4 +1,4 @@
-//! Where the fields of the types of CmsAuthenticated stand.
+//! Byte ranges of the fields of the types of CmsAuthenticated.
 //!
 //! Made by tools/asn1 from authenticated.asn1.
 

@@ -1,4 +1,4 @@
-//! Where the fields of the types of PkixCertificates stand.
+//! Byte ranges of the fields of the types of PkixCertificates.
 //!
 //! Made by tools/asn1 from certificate.asn1.
 

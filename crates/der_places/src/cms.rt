@@ -1,4 +1,4 @@
-//! Where the fields of the types of CmsSigned stand.
+//! Byte ranges of the fields of the types of CmsSigned.
 //!
 //! Made by tools/asn1 from cms.asn1.
 

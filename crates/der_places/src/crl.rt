@@ -1,4 +1,4 @@
-//! Where the fields of the types of PkixRevocation stand.
+//! Byte ranges of the fields of the types of PkixRevocation.
 //!
 //! Made by tools/asn1 from crl.asn1.
 

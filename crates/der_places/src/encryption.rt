@@ -1,4 +1,4 @@
-//! Where the fields of the types of PkcsEncryption stand.
+//! Byte ranges of the fields of the types of PkcsEncryption.
 //!
 //! Made by tools/asn1 from encryption.asn1.
 

@@ -1,4 +1,4 @@
-//! Where the fields of the types of CmsEnveloped stand.
+//! Byte ranges of the fields of the types of CmsEnveloped.
 //!
 //! Made by tools/asn1 from enveloped.asn1.
 

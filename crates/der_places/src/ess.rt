@@ -1,4 +1,4 @@
-//! Where the fields of the types of ExtendedSecurityServices-2006 stand.
+//! Byte ranges of the fields of the types of ExtendedSecurityServices-2006.
 //!
 //! Made by tools/asn1 from ess.asn1.
 

@@ -1,4 +1,4 @@
-//! Where the fields of the types of PkixExtensions stand.
+//! Byte ranges of the fields of the types of PkixExtensions.
 //!
 //! Made by tools/asn1 from extension.asn1.
 

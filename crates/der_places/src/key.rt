@@ -1,4 +1,4 @@
-//! Where the fields of the types of PkixKeys stand.
+//! Byte ranges of the fields of the types of PkixKeys.
 //!
 //! Made by tools/asn1 from key.asn1.
 

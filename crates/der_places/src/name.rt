@@ -1,4 +1,4 @@
-//! Where the fields of the types of PkixNames stand.
+//! Byte ranges of the fields of the types of PkixNames.
 //!
 //! Made by tools/asn1 from name.asn1.
 

@@ -1,4 +1,4 @@
-//! Where the fields of the types of OCSP-2013-88 stand.
+//! Byte ranges of the fields of the types of OCSP-2013-88.
 //!
 //! Made by tools/asn1 from ocsp.asn1.
 

@@ -1,4 +1,4 @@
-//! Where the fields of the types of PKCS-12 stand.
+//! Byte ranges of the fields of the types of PKCS-12.
 //!
 //! Made by tools/asn1 from pkcs12.asn1.
 

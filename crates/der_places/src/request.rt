@@ -1,4 +1,4 @@
-//! Where the fields of the types of PKCS-10 stand.
+//! Byte ranges of the fields of the types of PKCS-10.
 //!
 //! Made by tools/asn1 from request.asn1.
 

@@ -1,4 +1,4 @@
-//! Where the fields of the types of PKIXTSP stand.
+//! Byte ranges of the fields of the types of PKIXTSP.
 //!
 //! Made by tools/asn1 from time_stamp.asn1.
 

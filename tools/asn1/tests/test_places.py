@@ -73,8 +73,8 @@ class Fields(unittest.TestCase):
         self.assertIn("use der_places::{Place, Placed, is_some, is_there, next_place};", self.text)
 
     def test_each_place_says_when_it_has_no_octets(self) -> None:
-        self.assertIn("/// `perhaps`, `INTEGER (0..255) OPTIONAL`; no octets where it is absent. pub perhaps: Place,", self.text)
-        self.assertIn("; no octets where it is the default. pub flag: Place,", self.text)
+        self.assertIn("/// `perhaps`, `INTEGER (0..255) OPTIONAL`; empty if it is absent. pub perhaps: Place,", self.text)
+        self.assertIn("; empty if it has its default. pub flag: Place,", self.text)
 
 
 class Defaults(unittest.TestCase):

@@ -30,7 +30,7 @@ def write_aliases(plan: Plan, target: Target, aliases: list[Definition], name: s
             source.add(number(alias, one))
         for one in alias.bits:
             source.add(bit(alias, one))
-    return source.text([f"//! Second names of types in {name}."])
+    return source.text([f"//! Type aliases of {name}."])
 
 
 def number(alias: Alias, one: Named) -> str:
@@ -41,7 +41,7 @@ def number(alias: Alias, one: Named) -> str:
 
 def bit(alias: Alias, one: Named) -> str:
     """The place of a named bit."""
-    head = f"/// The place of the bit `{one.name}` of `{alias.name}`."
+    head = f"/// The position of the bit `{one.name}` of `{alias.name}`."
     return f"{head}\npub const {constant_name(alias, one)}: usize = {one.number};"
 
 
@@ -56,6 +56,6 @@ def write_constants(plan: Plan, target: Target, constants: list[Constant], name:
         octets = contents(one.arcs)
         listed = ", ".join(f"0x{octet:02x}" for octet in octets)
         dotted = ".".join(str(arc) for arc in one.arcs)
-        head = f"{docs.asn1(one.text)}\n///\n/// It is {dotted}, as contents octets."
+        head = f"{docs.asn1(one.text)}\n///\n/// {dotted}, as contents octets."
         source.add(f"{head}\npub const {one.rust}: [u8; {len(octets)}] = [{listed}];")
     return source.text([f"//! Object identifiers in {name}."])

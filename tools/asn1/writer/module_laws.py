@@ -28,7 +28,7 @@ def write_laws(plan: Plan, module: ResolvedModule) -> str:
         names = names_of_laws(definition)
         if names:
             by_file.setdefault(plan.file(definition), []).extend(names)
-    lines = [f"//! The laws of {module.name}: functions that do nothing, and promise what holds of its types.", ""]
+    lines = [f"//! The laws of {module.name}: functions with empty bodies, whose contracts state what holds of its types.", ""]
     for file, names in sorted(by_file.items()):
         listed = names[0] if len(names) == 1 else "{" + ", ".join(sorted(names)) + "}"
         lines.append(f"pub use crate::{target.module}::{file}::{listed};")
@@ -64,7 +64,7 @@ def grammar_law(source: Source, definition: Definition) -> str:
     target = source.target
     word = source.page_word(f"{target.crate}.specs.{target.page}.Grammar", word_of(definition))
     form = f"⟦<{type_} as {source.use('Form')}>⟧"
-    head = docs.doc(f"What is read as `{definition.name}` is what the page of the grammar says.")
+    head = docs.doc(f"What is read as `{definition.name}` is what the grammar page says.")
     return (
         f"{head}\npub fn grammar_of_{word}{lifetime}()\n"
         f"    ensures {{ {form}.{source.member('parse')} ≡ parse_of {word} }}\n{{}}"

@@ -187,12 +187,12 @@ def modules_of(plan: Plan, names: dict[Part, str]) -> list[str]:
     return sorted({module_of(plan, part) for part in names})
 
 
-HEAD = f"""//! What the octets of each type are made of: the components by their names.
+HEAD = f"""//! The components of each type, by their names.
 //!
 //! {MARK}."""
 
-COMPONENT = """/// A component: its name in the module, or no name where it is an item of a list or stands after an explicit
-/// tag; the identifier octet that tells it, where it may be absent or is one of several; what it is made of.
+COMPONENT = """/// A component: its name in the module, empty for an item of a list and for a value after an explicit tag; its
+/// identifier octet, if it may be absent or is one of several; its part.
 #[derive(Clone, Copy)]
 pub struct Component(pub &'static str, pub Option<u8>, pub Part);"""
 
@@ -207,9 +207,9 @@ def declaration(names: dict[Part, str]) -> str:
     """The enum of all parts."""
     listed = "".join(f"    /// {described(part)}.\n    {name},\n" for part, name in names.items())
     return (
-        "/// What stands in octets: a type with components, a list, or a value with no such parts.\n"
+        "/// The part that octets are: a type with components, a list, or a value without components.\n"
         "#[derive(Clone, Copy)]\n"
-        f"pub enum Part {{\n{listed}    /// A value with no components that have names.\n    Value,\n}}"
+        f"pub enum Part {{\n{listed}    /// A value without named components.\n    Value,\n}}"
     )
 
 
@@ -225,17 +225,17 @@ def calls(plan: Plan, names: dict[Part, str]) -> str:
     )
     lists = " | ".join(f"Part::{name}" for part, name in names.items() if is_list(part))
     return f"""impl Part {{
-    /// The components, in their order; of a list the one that each item is.
+    /// The components, in their order; for a list one, which each item is.
     ///
-    /// A CHOICE has no octets of its own: it stands here once for each alternative, each time with the
-    /// name of the component, and one of them is there.
+    /// A component that is a CHOICE is listed once for each alternative, each time with the name of the
+    /// component; one of them is present.
     pub fn components(self) -> &'static [Component] {{
         match self {{
 {arms}            Part::Value => &[],
         }}
     }}
 
-    /// Whether it is a list, of which each item is alike.
+    /// Whether it is a list.
     pub fn is_list(self) -> bool {{
         {f"matches!(self, {lists})" if lists else "false"}
     }}
@@ -244,7 +244,7 @@ def calls(plan: Plan, names: dict[Part, str]) -> str:
 
 def tables(names: dict[Part, str], module: str, mine: list[Part]) -> str:
     """The components of the types of a module."""
-    head = f"//! What the octets of the types of `{module}` are made of.\n//!\n//! {MARK}.\n\n"
+    head = f"//! The components of the types of `{module}`.\n//!\n//! {MARK}.\n\n"
     return f"{head}use super::{{Component, Part}};\n\n" + "\n".join(table(names, part) for part in mine)
 
 

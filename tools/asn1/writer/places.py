@@ -54,7 +54,7 @@ def check_end(struct: Struct) -> None:
 def root(module: ResolvedModule, structs: list[Struct]) -> str:
     """The module's own file."""
     names = sorted((snake(struct.rust), places_name(struct)) for struct in structs)
-    lines = [f"//! Where the fields of the types of {module.name} stand.", ""]
+    lines = [f"//! Byte ranges of the fields of the types of {module.name}.", ""]
     lines += [f"mod {file};" for file, _ in names] + [""]
     lines += [f"pub use {file}::{name};" for file, name in names]
     return "\n".join(lines) + "\n"
@@ -146,7 +146,7 @@ class Places:
     def declaration(self) -> str:
         rows = "\n".join(f"{docs.doc(words_of(one), indent='    ')}\n    pub {one.name}: Place," for one in self.fields)
         return (
-            f"{docs.doc(f'Where the fields of {article(self.struct.name)} `{self.struct.name}` stand.')}\n"
+            f"{docs.doc(f'Byte ranges of the fields of {article(self.struct.name)} `{self.struct.name}`.')}\n"
             "#[repr(C)]\n#[derive(Clone, Copy, Debug, PartialEq, Eq)]\n"
             f"pub struct {places_name(self.struct)} {{\n{rows}\n}}"
         )
@@ -354,5 +354,5 @@ def article(name: str) -> str:
 def words_of(one: Placed) -> str:
     """What a place is of."""
     field = one.member.field
-    absent = {Presence.OPTIONAL: "; no octets where it is absent", Presence.DEFAULT: "; no octets where it is the default"}
+    absent = {Presence.OPTIONAL: "; empty if it is absent", Presence.DEFAULT: "; empty if it has its default"}
     return f"`{field.name}`, `{field.text}`{absent.get(field.presence, '')}."

@@ -1,4 +1,4 @@
-//! What the octets of the types of `algorithm` are made of.
+//! The components of the types of `algorithm`.
 //!
 //! Made by tools/asn1.
 

@@ -1,4 +1,4 @@
-//! What the octets of the types of `authenticated` are made of.
+//! The components of the types of `authenticated`.
 //!
 //! Made by tools/asn1.
 

@@ -1,4 +1,4 @@
-//! What the octets of the types of `certificate` are made of.
+//! The components of the types of `certificate`.
 //!
 //! Made by tools/asn1.
 

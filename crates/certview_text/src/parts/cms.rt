@@ -1,4 +1,4 @@
-//! What the octets of the types of `cms` are made of.
+//! The components of the types of `cms`.
 //!
 //! Made by tools/asn1.
 

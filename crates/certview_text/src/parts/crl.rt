@@ -1,4 +1,4 @@
-//! What the octets of the types of `crl` are made of.
+//! The components of the types of `crl`.
 //!
 //! Made by tools/asn1.
 

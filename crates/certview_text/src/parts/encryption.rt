@@ -1,4 +1,4 @@
-//! What the octets of the types of `encryption` are made of.
+//! The components of the types of `encryption`.
 //!
 //! Made by tools/asn1.
 

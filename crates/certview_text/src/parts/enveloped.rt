@@ -1,4 +1,4 @@
-//! What the octets of the types of `enveloped` are made of.
+//! The components of the types of `enveloped`.
 //!
 //! Made by tools/asn1.
 

@@ -1,4 +1,4 @@
-//! What the octets of the types of `ess` are made of.
+//! The components of the types of `ess`.
 //!
 //! Made by tools/asn1.
 

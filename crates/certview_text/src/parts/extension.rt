@@ -1,4 +1,4 @@
-//! What the octets of the types of `extension` are made of.
+//! The components of the types of `extension`.
 //!
 //! Made by tools/asn1.
 

@@ -1,4 +1,4 @@
-//! What the octets of the types of `key` are made of.
+//! The components of the types of `key`.
 //!
 //! Made by tools/asn1.
 

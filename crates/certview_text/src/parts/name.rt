@@ -1,4 +1,4 @@
-//! What the octets of the types of `name` are made of.
+//! The components of the types of `name`.
 //!
 //! Made by tools/asn1.
 

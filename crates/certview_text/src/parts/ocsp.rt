@@ -1,4 +1,4 @@
-//! What the octets of the types of `ocsp` are made of.
+//! The components of the types of `ocsp`.
 //!
 //! Made by tools/asn1.
 

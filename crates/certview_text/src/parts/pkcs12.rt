@@ -1,4 +1,4 @@
-//! What the octets of the types of `pkcs12` are made of.
+//! The components of the types of `pkcs12`.
 //!
 //! Made by tools/asn1.
 

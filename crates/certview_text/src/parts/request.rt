@@ -1,4 +1,4 @@
-//! What the octets of the types of `request` are made of.
+//! The components of the types of `request`.
 //!
 //! Made by tools/asn1.
 

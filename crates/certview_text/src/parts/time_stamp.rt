@@ -1,4 +1,4 @@
-//! What the octets of the types of `time_stamp` are made of.
+//! The components of the types of `time_stamp`.
 //!
 //! Made by tools/asn1.
 

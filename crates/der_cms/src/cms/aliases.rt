@@ -1,4 +1,4 @@
-//! Second names of types in CmsSigned.
+//! Type aliases of CmsSigned.
 //!
 //! Made by tools/asn1 from cms.asn1.
 
@@ -18,7 +18,7 @@ use der_pkix::name::AttributeTypeAndValue;
 /// ```
 pub type ContentType<'a> = ObjectIdentifierRef<'a, 39>;
 
-/// What is read as `ContentType` is what the page of the grammar says.
+/// What is read as `ContentType` is what the grammar page says.
 pub fn grammar_of_content_type<'a>()
     ensures { ⟦<ContentType<'a> as Form>⟧.parse ≡ parse_of content_type }
 {}
@@ -28,7 +28,7 @@ pub fn grammar_of_content_type<'a>()
 /// ```
 pub type UnprotectedAttributes<'a> = UnsignedAttributes<'a>;
 
-/// What is read as `UnprotectedAttributes` is what the page of the grammar says.
+/// What is read as `UnprotectedAttributes` is what the grammar page says.
 pub fn grammar_of_unprotected_attributes<'a>()
     ensures { ⟦<UnprotectedAttributes<'a> as Form>⟧.parse ≡ parse_of unprotected_attributes }
 {}
@@ -38,7 +38,7 @@ pub fn grammar_of_unprotected_attributes<'a>()
 /// ```
 pub type OtherRevocationInfoFormat<'a> = AttributeTypeAndValue<'a>;
 
-/// What is read as `OtherRevocationInfoFormat` is what the page of the grammar says.
+/// What is read as `OtherRevocationInfoFormat` is what the grammar page says.
 pub fn grammar_of_other_revocation_info_format<'a>()
     ensures { ⟦<OtherRevocationInfoFormat<'a> as Form>⟧.parse ≡ parse_of other_revocation_info_format }
 {}
@@ -48,7 +48,7 @@ pub fn grammar_of_other_revocation_info_format<'a>()
 /// ```
 pub type OtherCertificateFormat<'a> = AttributeTypeAndValue<'a>;
 
-/// What is read as `OtherCertificateFormat` is what the page of the grammar says.
+/// What is read as `OtherCertificateFormat` is what the grammar page says.
 pub fn grammar_of_other_certificate_format<'a>()
     ensures { ⟦<OtherCertificateFormat<'a> as Form>⟧.parse ≡ parse_of other_certificate_format }
 {}
@@ -60,7 +60,7 @@ pub fn grammar_of_other_certificate_format<'a>()
 /// A number outside 0..255 is refused: the names alone say how wide the type is.
 pub type CmsVersion = u8;
 
-/// What is read as `CMSVersion` is what the page of the grammar says.
+/// What is read as `CMSVersion` is what the grammar page says.
 pub fn grammar_of_cms_version()
     ensures { ⟦<CmsVersion as Form>⟧.parse ≡ parse_of cms_version }
 {}
@@ -88,7 +88,7 @@ pub const CMS_VERSION_V5: u8 = 5;
 /// ```
 pub type MessageDigest<'a> = OctetStringRef<'a>;
 
-/// What is read as `MessageDigest` is what the page of the grammar says.
+/// What is read as `MessageDigest` is what the grammar page says.
 pub fn grammar_of_message_digest<'a>()
     ensures { ⟦<MessageDigest<'a> as Form>⟧.parse ≡ parse_of message_digest }
 {}
@@ -98,7 +98,7 @@ pub fn grammar_of_message_digest<'a>()
 /// ```
 pub type SigningTime = Time;
 
-/// What is read as `SigningTime` is what the page of the grammar says.
+/// What is read as `SigningTime` is what the grammar page says.
 pub fn grammar_of_signing_time()
     ensures { ⟦<SigningTime as Form>⟧.parse ≡ parse_of signing_time }
 {}
@@ -108,7 +108,7 @@ pub fn grammar_of_signing_time()
 /// ```
 pub type Countersignature<'a> = SignerInfo<'a>;
 
-/// What is read as `Countersignature` is what the page of the grammar says.
+/// What is read as `Countersignature` is what the grammar page says.
 pub fn grammar_of_countersignature<'a>()
     ensures { ⟦<Countersignature<'a> as Form>⟧.parse ≡ parse_of countersignature }
 {}

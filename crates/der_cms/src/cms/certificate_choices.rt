@@ -277,7 +277,7 @@ impl<'a> DuplicateIsEqual for CertificateChoices<'a> {
     ghost copy_is_equal = { ⟦<CertificateChoices<'a> as CopyLaws>⟧.copies.laws.equal_are };
 }
 
-/// What is read as `CertificateChoices` is what the page of the grammar says.
+/// What is read as `CertificateChoices` is what the grammar page says.
 pub fn grammar_of_certificate_choices<'a>()
     ensures { ⟦<CertificateChoices<'a> as Form>⟧.parse ≡ parse_of certificate_choices }
 {}

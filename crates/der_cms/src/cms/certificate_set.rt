@@ -106,7 +106,7 @@ impl<'a> ContentsEq for CertificateSet<'a> {
 
 impl<'a> CopyIsDuplicate for CertificateSet<'a> {}
 
-/// What is read as `CertificateSet` is what the page of the grammar says.
+/// What is read as `CertificateSet` is what the grammar page says.
 pub fn grammar_of_certificate_set<'a>()
     ensures { ⟦<CertificateSet<'a> as Form>⟧.parse ≡ parse_of certificate_set }
 {}

@@ -178,7 +178,7 @@ impl<'a> ContentsEq for DigestedData<'a> {
 
 impl<'a> CopyIsDuplicate for DigestedData<'a> {}
 
-/// What is read as `DigestedData` is what the page of the grammar says.
+/// What is read as `DigestedData` is what the grammar page says.
 pub fn grammar_of_digested_data<'a>()
     ensures { ⟦<DigestedData<'a> as Form>⟧.parse ≡ parse_of digested_data }
 {}

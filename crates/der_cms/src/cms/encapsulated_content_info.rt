@@ -146,7 +146,7 @@ impl<'a> ContentsEq for EncapsulatedContentInfo<'a> {
 
 impl<'a> CopyIsDuplicate for EncapsulatedContentInfo<'a> {}
 
-/// What is read as `EncapsulatedContentInfo` is what the page of the grammar says.
+/// What is read as `EncapsulatedContentInfo` is what the grammar page says.
 pub fn grammar_of_encapsulated_content_info<'a>()
     ensures { ⟦<EncapsulatedContentInfo<'a> as Form>⟧.parse ≡ parse_of encapsulated_content_info }
 {}

@@ -167,7 +167,7 @@ impl<'a> ContentsEq for EncryptedContentInfo<'a> {
 
 impl<'a> CopyIsDuplicate for EncryptedContentInfo<'a> {}
 
-/// What is read as `EncryptedContentInfo` is what the page of the grammar says.
+/// What is read as `EncryptedContentInfo` is what the grammar page says.
 pub fn grammar_of_encrypted_content_info<'a>()
     ensures { ⟦<EncryptedContentInfo<'a> as Form>⟧.parse ≡ parse_of encrypted_content_info }
 {}

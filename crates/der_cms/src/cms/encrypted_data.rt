@@ -163,7 +163,7 @@ impl<'a> ContentsEq for EncryptedData<'a> {
 
 impl<'a> CopyIsDuplicate for EncryptedData<'a> {}
 
-/// What is read as `EncryptedData` is what the page of the grammar says.
+/// What is read as `EncryptedData` is what the grammar page says.
 pub fn grammar_of_encrypted_data<'a>()
     ensures { ⟦<EncryptedData<'a> as Form>⟧.parse ≡ parse_of encrypted_data }
 {}

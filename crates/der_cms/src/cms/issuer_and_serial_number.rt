@@ -142,7 +142,7 @@ impl<'a> ContentsEq for IssuerAndSerialNumber<'a> {
 
 impl<'a> CopyIsDuplicate for IssuerAndSerialNumber<'a> {}
 
-/// What is read as `IssuerAndSerialNumber` is what the page of the grammar says.
+/// What is read as `IssuerAndSerialNumber` is what the grammar page says.
 pub fn grammar_of_issuer_and_serial_number<'a>()
     ensures { ⟦<IssuerAndSerialNumber<'a> as Form>⟧.parse ≡ parse_of issuer_and_serial_number }
 {}

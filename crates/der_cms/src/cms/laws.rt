@@ -1,4 +1,4 @@
-//! The laws of CmsSigned: functions that do nothing, and promise what holds of its types.
+//! The laws of CmsSigned: functions with empty bodies, whose contracts state what holds of its types.
 //!
 //! Made by tools/asn1 from cms.asn1.
 

@@ -234,7 +234,7 @@ impl<'a> DuplicateIsEqual for RevocationInfoChoice<'a> {
     ghost copy_is_equal = { ⟦<RevocationInfoChoice<'a> as CopyLaws>⟧.copies.laws.equal_are };
 }
 
-/// What is read as `RevocationInfoChoice` is what the page of the grammar says.
+/// What is read as `RevocationInfoChoice` is what the grammar page says.
 pub fn grammar_of_revocation_info_choice<'a>()
     ensures { ⟦<RevocationInfoChoice<'a> as Form>⟧.parse ≡ parse_of revocation_info_choice }
 {}

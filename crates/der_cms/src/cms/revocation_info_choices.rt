@@ -106,7 +106,7 @@ impl<'a> ContentsEq for RevocationInfoChoices<'a> {
 
 impl<'a> CopyIsDuplicate for RevocationInfoChoices<'a> {}
 
-/// What is read as `RevocationInfoChoices` is what the page of the grammar says.
+/// What is read as `RevocationInfoChoices` is what the grammar page says.
 pub fn grammar_of_revocation_info_choices<'a>()
     ensures { ⟦<RevocationInfoChoices<'a> as Form>⟧.parse ≡ parse_of revocation_info_choices }
 {}

@@ -106,7 +106,7 @@ impl<'a> ContentsEq for SignedAttributes<'a> {
 
 impl<'a> CopyIsDuplicate for SignedAttributes<'a> {}
 
-/// What is read as `SignedAttributes` is what the page of the grammar says.
+/// What is read as `SignedAttributes` is what the grammar page says.
 pub fn grammar_of_signed_attributes<'a>()
     ensures { ⟦<SignedAttributes<'a> as Form>⟧.parse ≡ parse_of signed_attributes }
 {}

@@ -211,7 +211,7 @@ impl<'a> ContentsEq for SignedData<'a> {
 
 impl<'a> CopyIsDuplicate for SignedData<'a> {}
 
-/// What is read as `SignedData` is what the page of the grammar says.
+/// What is read as `SignedData` is what the grammar page says.
 pub fn grammar_of_signed_data<'a>()
     ensures { ⟦<SignedData<'a> as Form>⟧.parse ≡ parse_of signed_data }
 {}

@@ -237,7 +237,7 @@ impl<'a> DuplicateIsEqual for SignerIdentifier<'a> {
     ghost copy_is_equal = { ⟦<SignerIdentifier<'a> as CopyLaws>⟧.copies.laws.equal_are };
 }
 
-/// What is read as `SignerIdentifier` is what the page of the grammar says.
+/// What is read as `SignerIdentifier` is what the grammar page says.
 pub fn grammar_of_signer_identifier<'a>()
     ensures { ⟦<SignerIdentifier<'a> as Form>⟧.parse ≡ parse_of signer_identifier }
 {}

@@ -223,7 +223,7 @@ impl<'a> ContentsEq for SignerInfo<'a> {
 
 impl<'a> CopyIsDuplicate for SignerInfo<'a> {}
 
-/// What is read as `SignerInfo` is what the page of the grammar says.
+/// What is read as `SignerInfo` is what the grammar page says.
 pub fn grammar_of_signer_info<'a>()
     ensures { ⟦<SignerInfo<'a> as Form>⟧.parse ≡ parse_of signer_info }
 {}

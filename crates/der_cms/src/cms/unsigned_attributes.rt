@@ -107,7 +107,7 @@ impl<'a> ContentsEq for UnsignedAttributes<'a> {
 
 impl<'a> CopyIsDuplicate for UnsignedAttributes<'a> {}
 
-/// What is read as `UnsignedAttributes` is what the page of the grammar says.
+/// What is read as `UnsignedAttributes` is what the grammar page says.
 pub fn grammar_of_unsigned_attributes<'a>()
     ensures { ⟦<UnsignedAttributes<'a> as Form>⟧.parse ≡ parse_of unsigned_attributes }
 {}

@@ -1,4 +1,4 @@
-//! Second names of types in ExtendedSecurityServices-2006.
+//! Type aliases of ExtendedSecurityServices-2006.
 //!
 //! Made by tools/asn1 from ess.asn1.
 
@@ -14,7 +14,7 @@ use der_opaque::OctetStringRef;
 /// ```
 pub type Hash<'a> = OctetStringRef<'a>;
 
-/// What is read as `Hash` is what the page of the grammar says.
+/// What is read as `Hash` is what the grammar page says.
 pub fn grammar_of_hash<'a>()
     ensures { ⟦<Hash<'a> as Form>⟧.parse ≡ parse_of hash }
 {}

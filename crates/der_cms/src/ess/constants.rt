@@ -6,14 +6,14 @@
 /// id-aa  OBJECT IDENTIFIER ::= { pkcs-9 16 2 }
 /// ```
 ///
-/// It is 1.2.840.113549.1.9.16.2, as contents octets.
+/// 1.2.840.113549.1.9.16.2, as contents octets.
 pub const ID_AA: [u8; 10] = [0x2a, 0x86, 0x48, 0x86, 0xf7, 0x0d, 0x01, 0x09, 0x10, 0x02];
 
 /// ```text
 /// id-aa-signingCertificate    OBJECT IDENTIFIER ::= { id-aa 12 }
 /// ```
 ///
-/// It is 1.2.840.113549.1.9.16.2.12, as contents octets.
+/// 1.2.840.113549.1.9.16.2.12, as contents octets.
 pub const ID_AA_SIGNING_CERTIFICATE: [u8; 11] = [
     0x2a, 0x86, 0x48, 0x86, 0xf7, 0x0d, 0x01, 0x09, 0x10, 0x02, 0x0c,
 ];
@@ -22,7 +22,7 @@ pub const ID_AA_SIGNING_CERTIFICATE: [u8; 11] = [
 /// id-aa-signingCertificateV2  OBJECT IDENTIFIER ::= { id-aa 47 }
 /// ```
 ///
-/// It is 1.2.840.113549.1.9.16.2.47, as contents octets.
+/// 1.2.840.113549.1.9.16.2.47, as contents octets.
 pub const ID_AA_SIGNING_CERTIFICATE_V2: [u8; 11] = [
     0x2a, 0x86, 0x48, 0x86, 0xf7, 0x0d, 0x01, 0x09, 0x10, 0x02, 0x2f,
 ];

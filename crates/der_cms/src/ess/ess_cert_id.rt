@@ -143,7 +143,7 @@ impl<'a> ContentsEq for EssCertId<'a> {
 
 impl<'a> CopyIsDuplicate for EssCertId<'a> {}
 
-/// What is read as `ESSCertID` is what the page of the grammar says.
+/// What is read as `ESSCertID` is what the grammar page says.
 pub fn grammar_of_ess_cert_id<'a>()
     ensures { ⟦<EssCertId<'a> as Form>⟧.parse ≡ parse_of ess_cert_id }
 {}

@@ -162,7 +162,7 @@ impl<'a> ContentsEq for EssCertIdv2<'a> {
 
 impl<'a> CopyIsDuplicate for EssCertIdv2<'a> {}
 
-/// What is read as `ESSCertIDv2` is what the page of the grammar says.
+/// What is read as `ESSCertIDv2` is what the grammar page says.
 pub fn grammar_of_ess_cert_idv2<'a>()
     ensures { ⟦<EssCertIdv2<'a> as Form>⟧.parse ≡ parse_of ess_cert_idv2 }
 {}

@@ -142,7 +142,7 @@ impl<'a> ContentsEq for IssuerSerial<'a> {
 
 impl<'a> CopyIsDuplicate for IssuerSerial<'a> {}
 
-/// What is read as `IssuerSerial` is what the page of the grammar says.
+/// What is read as `IssuerSerial` is what the grammar page says.
 pub fn grammar_of_issuer_serial<'a>()
     ensures { ⟦<IssuerSerial<'a> as Form>⟧.parse ≡ parse_of issuer_serial }
 {}

@@ -1,4 +1,4 @@
-//! The laws of ExtendedSecurityServices-2006: functions that do nothing, and promise what holds of its types.
+//! The laws of ExtendedSecurityServices-2006: functions with empty bodies, whose contracts state what holds of its types.
 //!
 //! Made by tools/asn1 from ess.asn1.
 

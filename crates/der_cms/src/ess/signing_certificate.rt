@@ -147,7 +147,7 @@ impl<'a> ContentsEq for SigningCertificate<'a> {
 
 impl<'a> CopyIsDuplicate for SigningCertificate<'a> {}
 
-/// What is read as `SigningCertificate` is what the page of the grammar says.
+/// What is read as `SigningCertificate` is what the grammar page says.
 pub fn grammar_of_signing_certificate<'a>()
     ensures { ⟦<SigningCertificate<'a> as Form>⟧.parse ≡ parse_of signing_certificate }
 {}

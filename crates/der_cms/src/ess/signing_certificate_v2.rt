@@ -147,7 +147,7 @@ impl<'a> ContentsEq for SigningCertificateV2<'a> {
 
 impl<'a> CopyIsDuplicate for SigningCertificateV2<'a> {}
 
-/// What is read as `SigningCertificateV2` is what the page of the grammar says.
+/// What is read as `SigningCertificateV2` is what the grammar page says.
 pub fn grammar_of_signing_certificate_v2<'a>()
     ensures { ⟦<SigningCertificateV2<'a> as Form>⟧.parse ≡ parse_of signing_certificate_v2 }
 {}

@@ -1,4 +1,4 @@
-//! Second names of types in CmsAuthenticated.
+//! Type aliases of CmsAuthenticated.
 //!
 //! Made by tools/asn1 from authenticated.asn1.
 
@@ -14,7 +14,7 @@ use der_elem::Form;
 /// ```
 pub type AuthAttributes<'a> = SignedAttributes<'a>;
 
-/// What is read as `AuthAttributes` is what the page of the grammar says.
+/// What is read as `AuthAttributes` is what the grammar page says.
 pub fn grammar_of_auth_attributes<'a>()
     ensures { ⟦<AuthAttributes<'a> as Form>⟧.parse ≡ parse_of auth_attributes }
 {}
@@ -24,7 +24,7 @@ pub fn grammar_of_auth_attributes<'a>()
 /// ```
 pub type UnauthAttributes<'a> = UnsignedAttributes<'a>;
 
-/// What is read as `UnauthAttributes` is what the page of the grammar says.
+/// What is read as `UnauthAttributes` is what the grammar page says.
 pub fn grammar_of_unauth_attributes<'a>()
     ensures { ⟦<UnauthAttributes<'a> as Form>⟧.parse ≡ parse_of unauth_attributes }
 {}

@@ -247,7 +247,7 @@ impl<'a> ContentsEq for AuthenticatedData<'a> {
 
 impl<'a> CopyIsDuplicate for AuthenticatedData<'a> {}
 
-/// What is read as `AuthenticatedData` is what the page of the grammar says.
+/// What is read as `AuthenticatedData` is what the grammar page says.
 pub fn grammar_of_authenticated_data<'a>()
     ensures { ⟦<AuthenticatedData<'a> as Form>⟧.parse ≡ parse_of authenticated_data }
 {}

@@ -1,4 +1,4 @@
-//! The laws of CmsAuthenticated: functions that do nothing, and promise what holds of its types.
+//! The laws of CmsAuthenticated: functions with empty bodies, whose contracts state what holds of its types.
 //!
 //! Made by tools/asn1 from authenticated.asn1.
 

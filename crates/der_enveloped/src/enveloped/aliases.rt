@@ -1,4 +1,4 @@
-//! Second names of types in CmsEnveloped.
+//! Type aliases of CmsEnveloped.
 //!
 //! Made by tools/asn1 from enveloped.asn1.
 
@@ -19,7 +19,7 @@ use der_pkix::name::AttributeTypeAndValue;
 /// ```
 pub type RecipientIdentifier<'a> = SignerIdentifier<'a>;
 
-/// What is read as `RecipientIdentifier` is what the page of the grammar says.
+/// What is read as `RecipientIdentifier` is what the grammar page says.
 pub fn grammar_of_recipient_identifier<'a>()
     ensures { ⟦<RecipientIdentifier<'a> as Form>⟧.parse ≡ parse_of recipient_identifier }
 {}
@@ -29,7 +29,7 @@ pub fn grammar_of_recipient_identifier<'a>()
 /// ```
 pub type OriginatorPublicKey<'a> = SubjectPublicKeyInfo<'a>;
 
-/// What is read as `OriginatorPublicKey` is what the page of the grammar says.
+/// What is read as `OriginatorPublicKey` is what the grammar page says.
 pub fn grammar_of_originator_public_key<'a>()
     ensures { ⟦<OriginatorPublicKey<'a> as Form>⟧.parse ≡ parse_of originator_public_key }
 {}
@@ -39,7 +39,7 @@ pub fn grammar_of_originator_public_key<'a>()
 /// ```
 pub type KekIdentifier<'a> = RecipientKeyIdentifier<'a>;
 
-/// What is read as `KEKIdentifier` is what the page of the grammar says.
+/// What is read as `KEKIdentifier` is what the grammar page says.
 pub fn grammar_of_kek_identifier<'a>()
     ensures { ⟦<KekIdentifier<'a> as Form>⟧.parse ≡ parse_of kek_identifier }
 {}
@@ -49,7 +49,7 @@ pub fn grammar_of_kek_identifier<'a>()
 /// ```
 pub type OtherRecipientInfo<'a> = AttributeTypeAndValue<'a>;
 
-/// What is read as `OtherRecipientInfo` is what the page of the grammar says.
+/// What is read as `OtherRecipientInfo` is what the grammar page says.
 pub fn grammar_of_other_recipient_info<'a>()
     ensures { ⟦<OtherRecipientInfo<'a> as Form>⟧.parse ≡ parse_of other_recipient_info }
 {}
@@ -59,7 +59,7 @@ pub fn grammar_of_other_recipient_info<'a>()
 /// ```
 pub type UserKeyingMaterial<'a> = OctetStringRef<'a>;
 
-/// What is read as `UserKeyingMaterial` is what the page of the grammar says.
+/// What is read as `UserKeyingMaterial` is what the grammar page says.
 pub fn grammar_of_user_keying_material<'a>()
     ensures { ⟦<UserKeyingMaterial<'a> as Form>⟧.parse ≡ parse_of user_keying_material }
 {}
@@ -69,7 +69,7 @@ pub fn grammar_of_user_keying_material<'a>()
 /// ```
 pub type OtherKeyAttribute<'a> = AlgorithmIdentifier<'a>;
 
-/// What is read as `OtherKeyAttribute` is what the page of the grammar says.
+/// What is read as `OtherKeyAttribute` is what the grammar page says.
 pub fn grammar_of_other_key_attribute<'a>()
     ensures { ⟦<OtherKeyAttribute<'a> as Form>⟧.parse ≡ parse_of other_key_attribute }
 {}

@@ -192,7 +192,7 @@ impl<'a> ContentsEq for EnvelopedData<'a> {
 
 impl<'a> CopyIsDuplicate for EnvelopedData<'a> {}
 
-/// What is read as `EnvelopedData` is what the page of the grammar says.
+/// What is read as `EnvelopedData` is what the grammar page says.
 pub fn grammar_of_enveloped_data<'a>()
     ensures { ⟦<EnvelopedData<'a> as Form>⟧.parse ≡ parse_of enveloped_data }
 {}

@@ -178,7 +178,7 @@ impl<'a> ContentsEq for KekRecipientInfo<'a> {
 
 impl<'a> CopyIsDuplicate for KekRecipientInfo<'a> {}
 
-/// What is read as `KEKRecipientInfo` is what the page of the grammar says.
+/// What is read as `KEKRecipientInfo` is what the grammar page says.
 pub fn grammar_of_kek_recipient_info<'a>()
     ensures { ⟦<KekRecipientInfo<'a> as Form>⟧.parse ≡ parse_of kek_recipient_info }
 {}

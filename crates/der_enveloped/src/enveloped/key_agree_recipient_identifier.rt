@@ -244,7 +244,7 @@ impl<'a> DuplicateIsEqual for KeyAgreeRecipientIdentifier<'a> {
     ghost copy_is_equal = { ⟦<KeyAgreeRecipientIdentifier<'a> as CopyLaws>⟧.copies.laws.equal_are };
 }
 
-/// What is read as `KeyAgreeRecipientIdentifier` is what the page of the grammar says.
+/// What is read as `KeyAgreeRecipientIdentifier` is what the grammar page says.
 pub fn grammar_of_key_agree_recipient_identifier<'a>()
     ensures { ⟦<KeyAgreeRecipientIdentifier<'a> as Form>⟧.parse ≡ parse_of key_agree_recipient_identifier }
 {}

@@ -194,7 +194,7 @@ impl<'a> ContentsEq for KeyAgreeRecipientInfo<'a> {
 
 impl<'a> CopyIsDuplicate for KeyAgreeRecipientInfo<'a> {}
 
-/// What is read as `KeyAgreeRecipientInfo` is what the page of the grammar says.
+/// What is read as `KeyAgreeRecipientInfo` is what the grammar page says.
 pub fn grammar_of_key_agree_recipient_info<'a>()
     ensures { ⟦<KeyAgreeRecipientInfo<'a> as Form>⟧.parse ≡ parse_of key_agree_recipient_info }
 {}

@@ -178,7 +178,7 @@ impl<'a> ContentsEq for KeyTransRecipientInfo<'a> {
 
 impl<'a> CopyIsDuplicate for KeyTransRecipientInfo<'a> {}
 
-/// What is read as `KeyTransRecipientInfo` is what the page of the grammar says.
+/// What is read as `KeyTransRecipientInfo` is what the grammar page says.
 pub fn grammar_of_key_trans_recipient_info<'a>()
     ensures { ⟦<KeyTransRecipientInfo<'a> as Form>⟧.parse ≡ parse_of key_trans_recipient_info }
 {}

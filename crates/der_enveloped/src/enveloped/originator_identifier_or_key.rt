@@ -262,7 +262,7 @@ impl<'a> DuplicateIsEqual for OriginatorIdentifierOrKey<'a> {
     ghost copy_is_equal = { ⟦<OriginatorIdentifierOrKey<'a> as CopyLaws>⟧.copies.laws.equal_are };
 }
 
-/// What is read as `OriginatorIdentifierOrKey` is what the page of the grammar says.
+/// What is read as `OriginatorIdentifierOrKey` is what the grammar page says.
 pub fn grammar_of_originator_identifier_or_key<'a>()
     ensures { ⟦<OriginatorIdentifierOrKey<'a> as Form>⟧.parse ≡ parse_of originator_identifier_or_key }
 {}

@@ -148,7 +148,7 @@ impl<'a> ContentsEq for OriginatorInfo<'a> {
 
 impl<'a> CopyIsDuplicate for OriginatorInfo<'a> {}
 
-/// What is read as `OriginatorInfo` is what the page of the grammar says.
+/// What is read as `OriginatorInfo` is what the grammar page says.
 pub fn grammar_of_originator_info<'a>()
     ensures { ⟦<OriginatorInfo<'a> as Form>⟧.parse ≡ parse_of originator_info }
 {}

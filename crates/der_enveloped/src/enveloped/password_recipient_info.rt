@@ -178,7 +178,7 @@ impl<'a> ContentsEq for PasswordRecipientInfo<'a> {
 
 impl<'a> CopyIsDuplicate for PasswordRecipientInfo<'a> {}
 
-/// What is read as `PasswordRecipientInfo` is what the page of the grammar says.
+/// What is read as `PasswordRecipientInfo` is what the grammar page says.
 pub fn grammar_of_password_recipient_info<'a>()
     ensures { ⟦<PasswordRecipientInfo<'a> as Form>⟧.parse ≡ parse_of password_recipient_info }
 {}

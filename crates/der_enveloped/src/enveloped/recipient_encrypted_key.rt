@@ -142,7 +142,7 @@ impl<'a> ContentsEq for RecipientEncryptedKey<'a> {
 
 impl<'a> CopyIsDuplicate for RecipientEncryptedKey<'a> {}
 
-/// What is read as `RecipientEncryptedKey` is what the page of the grammar says.
+/// What is read as `RecipientEncryptedKey` is what the grammar page says.
 pub fn grammar_of_recipient_encrypted_key<'a>()
     ensures { ⟦<RecipientEncryptedKey<'a> as Form>⟧.parse ≡ parse_of recipient_encrypted_key }
 {}

@@ -106,7 +106,7 @@ impl<'a> ContentsEq for RecipientEncryptedKeys<'a> {
 
 impl<'a> CopyIsDuplicate for RecipientEncryptedKeys<'a> {}
 
-/// What is read as `RecipientEncryptedKeys` is what the page of the grammar says.
+/// What is read as `RecipientEncryptedKeys` is what the grammar page says.
 pub fn grammar_of_recipient_encrypted_keys<'a>()
     ensures { ⟦<RecipientEncryptedKeys<'a> as Form>⟧.parse ≡ parse_of recipient_encrypted_keys }
 {}

@@ -273,7 +273,7 @@ impl<'a> DuplicateIsEqual for RecipientInfo<'a> {
     ghost copy_is_equal = { ⟦<RecipientInfo<'a> as CopyLaws>⟧.copies.laws.equal_are };
 }
 
-/// What is read as `RecipientInfo` is what the page of the grammar says.
+/// What is read as `RecipientInfo` is what the grammar page says.
 pub fn grammar_of_recipient_info<'a>()
     ensures { ⟦<RecipientInfo<'a> as Form>⟧.parse ≡ parse_of recipient_info }
 {}

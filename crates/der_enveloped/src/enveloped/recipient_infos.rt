@@ -107,7 +107,7 @@ impl<'a> ContentsEq for RecipientInfos<'a> {
 
 impl<'a> CopyIsDuplicate for RecipientInfos<'a> {}
 
-/// What is read as `RecipientInfos` is what the page of the grammar says.
+/// What is read as `RecipientInfos` is what the grammar page says.
 pub fn grammar_of_recipient_infos<'a>()
     ensures { ⟦<RecipientInfos<'a> as Form>⟧.parse ≡ parse_of recipient_infos }
 {}

@@ -164,7 +164,7 @@ impl<'a> ContentsEq for RecipientKeyIdentifier<'a> {
 
 impl<'a> CopyIsDuplicate for RecipientKeyIdentifier<'a> {}
 
-/// What is read as `RecipientKeyIdentifier` is what the page of the grammar says.
+/// What is read as `RecipientKeyIdentifier` is what the grammar page says.
 pub fn grammar_of_recipient_key_identifier<'a>()
     ensures { ⟦<RecipientKeyIdentifier<'a> as Form>⟧.parse ≡ parse_of recipient_key_identifier }
 {}

@@ -142,7 +142,7 @@ impl<'a> ContentsEq for AccessDescription<'a> {
 
 impl<'a> CopyIsDuplicate for AccessDescription<'a> {}
 
-/// What is read as `AccessDescription` is what the page of the grammar says.
+/// What is read as `AccessDescription` is what the grammar page says.
 pub fn grammar_of_access_description<'a>()
     ensures { ⟦<AccessDescription<'a> as Form>⟧.parse ≡ parse_of access_description }
 {}

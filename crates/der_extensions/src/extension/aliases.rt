@@ -1,4 +1,4 @@
-//! Second names of types in PkixExtensions.
+//! Type aliases of PkixExtensions.
 //!
 //! Made by tools/asn1 from extension.asn1.
 
@@ -20,7 +20,7 @@ use der_time::GeneralizedTime;
 /// ```
 pub type KeyIdentifier<'a> = OctetStringRef<'a>;
 
-/// What is read as `KeyIdentifier` is what the page of the grammar says.
+/// What is read as `KeyIdentifier` is what the grammar page says.
 pub fn grammar_of_key_identifier<'a>()
     ensures { ⟦<KeyIdentifier<'a> as Form>⟧.parse ≡ parse_of key_identifier }
 {}
@@ -30,7 +30,7 @@ pub fn grammar_of_key_identifier<'a>()
 /// ```
 pub type SubjectKeyIdentifier<'a> = KeyIdentifier<'a>;
 
-/// What is read as `SubjectKeyIdentifier` is what the page of the grammar says.
+/// What is read as `SubjectKeyIdentifier` is what the grammar page says.
 pub fn grammar_of_subject_key_identifier<'a>()
     ensures { ⟦<SubjectKeyIdentifier<'a> as Form>⟧.parse ≡ parse_of subject_key_identifier }
 {}
@@ -50,36 +50,36 @@ pub fn grammar_of_subject_key_identifier<'a>()
 /// ```
 pub type KeyUsage<'a> = NamedBitsRef<'a>;
 
-/// What is read as `KeyUsage` is what the page of the grammar says.
+/// What is read as `KeyUsage` is what the grammar page says.
 pub fn grammar_of_key_usage<'a>()
     ensures { ⟦<KeyUsage<'a> as Form>⟧.parse ≡ parse_of key_usage }
 {}
 
-/// The place of the bit `digitalSignature` of `KeyUsage`.
+/// The position of the bit `digitalSignature` of `KeyUsage`.
 pub const KEY_USAGE_DIGITAL_SIGNATURE: usize = 0;
 
-/// The place of the bit `nonRepudiation` of `KeyUsage`.
+/// The position of the bit `nonRepudiation` of `KeyUsage`.
 pub const KEY_USAGE_NON_REPUDIATION: usize = 1;
 
-/// The place of the bit `keyEncipherment` of `KeyUsage`.
+/// The position of the bit `keyEncipherment` of `KeyUsage`.
 pub const KEY_USAGE_KEY_ENCIPHERMENT: usize = 2;
 
-/// The place of the bit `dataEncipherment` of `KeyUsage`.
+/// The position of the bit `dataEncipherment` of `KeyUsage`.
 pub const KEY_USAGE_DATA_ENCIPHERMENT: usize = 3;
 
-/// The place of the bit `keyAgreement` of `KeyUsage`.
+/// The position of the bit `keyAgreement` of `KeyUsage`.
 pub const KEY_USAGE_KEY_AGREEMENT: usize = 4;
 
-/// The place of the bit `keyCertSign` of `KeyUsage`.
+/// The position of the bit `keyCertSign` of `KeyUsage`.
 pub const KEY_USAGE_KEY_CERT_SIGN: usize = 5;
 
-/// The place of the bit `cRLSign` of `KeyUsage`.
+/// The position of the bit `cRLSign` of `KeyUsage`.
 pub const KEY_USAGE_CRL_SIGN: usize = 6;
 
-/// The place of the bit `encipherOnly` of `KeyUsage`.
+/// The position of the bit `encipherOnly` of `KeyUsage`.
 pub const KEY_USAGE_ENCIPHER_ONLY: usize = 7;
 
-/// The place of the bit `decipherOnly` of `KeyUsage`.
+/// The position of the bit `decipherOnly` of `KeyUsage`.
 pub const KEY_USAGE_DECIPHER_ONLY: usize = 8;
 
 /// ```text
@@ -87,7 +87,7 @@ pub const KEY_USAGE_DECIPHER_ONLY: usize = 8;
 /// ```
 pub type CertPolicyId<'a> = ObjectIdentifierRef<'a, 39>;
 
-/// What is read as `CertPolicyId` is what the page of the grammar says.
+/// What is read as `CertPolicyId` is what the grammar page says.
 pub fn grammar_of_cert_policy_id<'a>()
     ensures { ⟦<CertPolicyId<'a> as Form>⟧.parse ≡ parse_of cert_policy_id }
 {}
@@ -99,7 +99,7 @@ pub fn grammar_of_cert_policy_id<'a>()
 /// Not checked: which values are allowed is not checked.
 pub type PolicyQualifierId<'a> = ObjectIdentifierRef<'a, 39>;
 
-/// What is read as `PolicyQualifierId` is what the page of the grammar says.
+/// What is read as `PolicyQualifierId` is what the grammar page says.
 pub fn grammar_of_policy_qualifier_id<'a>()
     ensures { ⟦<PolicyQualifierId<'a> as Form>⟧.parse ≡ parse_of policy_qualifier_id }
 {}
@@ -109,7 +109,7 @@ pub fn grammar_of_policy_qualifier_id<'a>()
 /// ```
 pub type CpSuri<'a> = Ia5StringRef<'a>;
 
-/// What is read as `CPSuri` is what the page of the grammar says.
+/// What is read as `CPSuri` is what the grammar page says.
 pub fn grammar_of_cp_suri<'a>()
     ensures { ⟦<CpSuri<'a> as Form>⟧.parse ≡ parse_of cp_suri }
 {}
@@ -119,7 +119,7 @@ pub fn grammar_of_cp_suri<'a>()
 /// ```
 pub type SubjectAltName<'a> = GeneralNames<'a>;
 
-/// What is read as `SubjectAltName` is what the page of the grammar says.
+/// What is read as `SubjectAltName` is what the grammar page says.
 pub fn grammar_of_subject_alt_name<'a>()
     ensures { ⟦<SubjectAltName<'a> as Form>⟧.parse ≡ parse_of subject_alt_name }
 {}
@@ -129,7 +129,7 @@ pub fn grammar_of_subject_alt_name<'a>()
 /// ```
 pub type IssuerAltName<'a> = GeneralNames<'a>;
 
-/// What is read as `IssuerAltName` is what the page of the grammar says.
+/// What is read as `IssuerAltName` is what the grammar page says.
 pub fn grammar_of_issuer_alt_name<'a>()
     ensures { ⟦<IssuerAltName<'a> as Form>⟧.parse ≡ parse_of issuer_alt_name }
 {}
@@ -141,7 +141,7 @@ pub fn grammar_of_issuer_alt_name<'a>()
 /// Not checked: INTEGER as u8: other numbers are refused.
 pub type BaseDistance = u8;
 
-/// What is read as `BaseDistance` is what the page of the grammar says.
+/// What is read as `BaseDistance` is what the grammar page says.
 pub fn grammar_of_base_distance()
     ensures { ⟦<BaseDistance as Form>⟧.parse ≡ parse_of base_distance }
 {}
@@ -151,7 +151,7 @@ pub fn grammar_of_base_distance()
 /// ```
 pub type SkipCerts<'a> = UintRef<'a>;
 
-/// What is read as `SkipCerts` is what the page of the grammar says.
+/// What is read as `SkipCerts` is what the grammar page says.
 pub fn grammar_of_skip_certs<'a>()
     ensures { ⟦<SkipCerts<'a> as Form>⟧.parse ≡ parse_of skip_certs }
 {}
@@ -170,36 +170,36 @@ pub fn grammar_of_skip_certs<'a>()
 /// ```
 pub type ReasonFlags<'a> = NamedBitsRef<'a>;
 
-/// What is read as `ReasonFlags` is what the page of the grammar says.
+/// What is read as `ReasonFlags` is what the grammar page says.
 pub fn grammar_of_reason_flags<'a>()
     ensures { ⟦<ReasonFlags<'a> as Form>⟧.parse ≡ parse_of reason_flags }
 {}
 
-/// The place of the bit `unused` of `ReasonFlags`.
+/// The position of the bit `unused` of `ReasonFlags`.
 pub const REASON_FLAGS_UNUSED: usize = 0;
 
-/// The place of the bit `keyCompromise` of `ReasonFlags`.
+/// The position of the bit `keyCompromise` of `ReasonFlags`.
 pub const REASON_FLAGS_KEY_COMPROMISE: usize = 1;
 
-/// The place of the bit `cACompromise` of `ReasonFlags`.
+/// The position of the bit `cACompromise` of `ReasonFlags`.
 pub const REASON_FLAGS_CA_COMPROMISE: usize = 2;
 
-/// The place of the bit `affiliationChanged` of `ReasonFlags`.
+/// The position of the bit `affiliationChanged` of `ReasonFlags`.
 pub const REASON_FLAGS_AFFILIATION_CHANGED: usize = 3;
 
-/// The place of the bit `superseded` of `ReasonFlags`.
+/// The position of the bit `superseded` of `ReasonFlags`.
 pub const REASON_FLAGS_SUPERSEDED: usize = 4;
 
-/// The place of the bit `cessationOfOperation` of `ReasonFlags`.
+/// The position of the bit `cessationOfOperation` of `ReasonFlags`.
 pub const REASON_FLAGS_CESSATION_OF_OPERATION: usize = 5;
 
-/// The place of the bit `certificateHold` of `ReasonFlags`.
+/// The position of the bit `certificateHold` of `ReasonFlags`.
 pub const REASON_FLAGS_CERTIFICATE_HOLD: usize = 6;
 
-/// The place of the bit `privilegeWithdrawn` of `ReasonFlags`.
+/// The position of the bit `privilegeWithdrawn` of `ReasonFlags`.
 pub const REASON_FLAGS_PRIVILEGE_WITHDRAWN: usize = 7;
 
-/// The place of the bit `aACompromise` of `ReasonFlags`.
+/// The position of the bit `aACompromise` of `ReasonFlags`.
 pub const REASON_FLAGS_AA_COMPROMISE: usize = 8;
 
 /// ```text
@@ -207,7 +207,7 @@ pub const REASON_FLAGS_AA_COMPROMISE: usize = 8;
 /// ```
 pub type KeyPurposeId<'a> = ObjectIdentifierRef<'a, 39>;
 
-/// What is read as `KeyPurposeId` is what the page of the grammar says.
+/// What is read as `KeyPurposeId` is what the grammar page says.
 pub fn grammar_of_key_purpose_id<'a>()
     ensures { ⟦<KeyPurposeId<'a> as Form>⟧.parse ≡ parse_of key_purpose_id }
 {}
@@ -217,7 +217,7 @@ pub fn grammar_of_key_purpose_id<'a>()
 /// ```
 pub type InhibitAnyPolicy<'a> = SkipCerts<'a>;
 
-/// What is read as `InhibitAnyPolicy` is what the page of the grammar says.
+/// What is read as `InhibitAnyPolicy` is what the grammar page says.
 pub fn grammar_of_inhibit_any_policy<'a>()
     ensures { ⟦<InhibitAnyPolicy<'a> as Form>⟧.parse ≡ parse_of inhibit_any_policy }
 {}
@@ -227,7 +227,7 @@ pub fn grammar_of_inhibit_any_policy<'a>()
 /// ```
 pub type FreshestCrl<'a> = CrlDistributionPoints<'a>;
 
-/// What is read as `FreshestCRL` is what the page of the grammar says.
+/// What is read as `FreshestCRL` is what the grammar page says.
 pub fn grammar_of_freshest_crl<'a>()
     ensures { ⟦<FreshestCrl<'a> as Form>⟧.parse ≡ parse_of freshest_crl }
 {}
@@ -237,7 +237,7 @@ pub fn grammar_of_freshest_crl<'a>()
 /// ```
 pub type CrlNumber<'a> = UintRef<'a>;
 
-/// What is read as `CRLNumber` is what the page of the grammar says.
+/// What is read as `CRLNumber` is what the grammar page says.
 pub fn grammar_of_crl_number<'a>()
     ensures { ⟦<CrlNumber<'a> as Form>⟧.parse ≡ parse_of crl_number }
 {}
@@ -247,7 +247,7 @@ pub fn grammar_of_crl_number<'a>()
 /// ```
 pub type BaseCrlNumber<'a> = CrlNumber<'a>;
 
-/// What is read as `BaseCRLNumber` is what the page of the grammar says.
+/// What is read as `BaseCRLNumber` is what the grammar page says.
 pub fn grammar_of_base_crl_number<'a>()
     ensures { ⟦<BaseCrlNumber<'a> as Form>⟧.parse ≡ parse_of base_crl_number }
 {}
@@ -257,7 +257,7 @@ pub fn grammar_of_base_crl_number<'a>()
 /// ```
 pub type CertificateIssuer<'a> = GeneralNames<'a>;
 
-/// What is read as `CertificateIssuer` is what the page of the grammar says.
+/// What is read as `CertificateIssuer` is what the grammar page says.
 pub fn grammar_of_certificate_issuer<'a>()
     ensures { ⟦<CertificateIssuer<'a> as Form>⟧.parse ≡ parse_of certificate_issuer }
 {}
@@ -267,7 +267,7 @@ pub fn grammar_of_certificate_issuer<'a>()
 /// ```
 pub type HoldInstructionCode<'a> = ObjectIdentifierRef<'a, 39>;
 
-/// What is read as `HoldInstructionCode` is what the page of the grammar says.
+/// What is read as `HoldInstructionCode` is what the grammar page says.
 pub fn grammar_of_hold_instruction_code<'a>()
     ensures { ⟦<HoldInstructionCode<'a> as Form>⟧.parse ≡ parse_of hold_instruction_code }
 {}
@@ -277,7 +277,7 @@ pub fn grammar_of_hold_instruction_code<'a>()
 /// ```
 pub type InvalidityDate = GeneralizedTime;
 
-/// What is read as `InvalidityDate` is what the page of the grammar says.
+/// What is read as `InvalidityDate` is what the grammar page says.
 pub fn grammar_of_invalidity_date()
     ensures { ⟦<InvalidityDate as Form>⟧.parse ≡ parse_of invalidity_date }
 {}

@@ -138,7 +138,7 @@ impl<'a> ContentsEq for AnotherName<'a> {
 
 impl<'a> CopyIsDuplicate for AnotherName<'a> {}
 
-/// What is read as `AnotherName` is what the page of the grammar says.
+/// What is read as `AnotherName` is what the grammar page says.
 pub fn grammar_of_another_name<'a>()
     ensures { ⟦<AnotherName<'a> as Form>⟧.parse ≡ parse_of another_name }
 {}

@@ -112,7 +112,7 @@ impl<'a> ContentsEq for AuthorityInfoAccessSyntax<'a> {
 
 impl<'a> CopyIsDuplicate for AuthorityInfoAccessSyntax<'a> {}
 
-/// What is read as `AuthorityInfoAccessSyntax` is what the page of the grammar says.
+/// What is read as `AuthorityInfoAccessSyntax` is what the grammar page says.
 pub fn grammar_of_authority_info_access_syntax<'a>()
     ensures { ⟦<AuthorityInfoAccessSyntax<'a> as Form>⟧.parse ≡ parse_of authority_info_access_syntax }
 {}

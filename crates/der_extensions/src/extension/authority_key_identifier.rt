@@ -167,7 +167,7 @@ impl<'a> ContentsEq for AuthorityKeyIdentifier<'a> {
 
 impl<'a> CopyIsDuplicate for AuthorityKeyIdentifier<'a> {}
 
-/// What is read as `AuthorityKeyIdentifier` is what the page of the grammar says.
+/// What is read as `AuthorityKeyIdentifier` is what the grammar page says.
 pub fn grammar_of_authority_key_identifier<'a>()
     ensures { ⟦<AuthorityKeyIdentifier<'a> as Form>⟧.parse ≡ parse_of authority_key_identifier }
 {}

@@ -141,7 +141,7 @@ impl<'a> ContentsEq for BasicConstraints<'a> {
 
 impl<'a> CopyIsDuplicate for BasicConstraints<'a> {}
 
-/// What is read as `BasicConstraints` is what the page of the grammar says.
+/// What is read as `BasicConstraints` is what the grammar page says.
 pub fn grammar_of_basic_constraints<'a>()
     ensures { ⟦<BasicConstraints<'a> as Form>⟧.parse ≡ parse_of basic_constraints }
 {}

@@ -109,7 +109,7 @@ impl<'a> ContentsEq for CertificatePolicies<'a> {
 
 impl<'a> CopyIsDuplicate for CertificatePolicies<'a> {}
 
-/// What is read as `CertificatePolicies` is what the page of the grammar says.
+/// What is read as `CertificatePolicies` is what the grammar page says.
 pub fn grammar_of_certificate_policies<'a>()
     ensures { ⟦<CertificatePolicies<'a> as Form>⟧.parse ≡ parse_of certificate_policies }
 {}

@@ -109,7 +109,7 @@ impl<'a> ContentsEq for CrlDistributionPoints<'a> {
 
 impl<'a> CopyIsDuplicate for CrlDistributionPoints<'a> {}
 
-/// What is read as `CRLDistributionPoints` is what the page of the grammar says.
+/// What is read as `CRLDistributionPoints` is what the grammar page says.
 pub fn grammar_of_crl_distribution_points<'a>()
     ensures { ⟦<CrlDistributionPoints<'a> as Form>⟧.parse ≡ parse_of crl_distribution_points }
 {}

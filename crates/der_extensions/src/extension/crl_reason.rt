@@ -87,7 +87,7 @@ impl Enumeration for CrlReason {
     }
 }
 
-/// What is read as `CRLReason` is what the page of the grammar says.
+/// What is read as `CRLReason` is what the grammar page says.
 pub fn grammar_of_crl_reason()
     ensures { ⟦<Enumerated<CrlReason> as Form>⟧.parse ≡ parse_of crl_reason }
 {}

@@ -164,7 +164,7 @@ impl<'a> ContentsEq for DistributionPoint<'a> {
 
 impl<'a> CopyIsDuplicate for DistributionPoint<'a> {}
 
-/// What is read as `DistributionPoint` is what the page of the grammar says.
+/// What is read as `DistributionPoint` is what the grammar page says.
 pub fn grammar_of_distribution_point<'a>()
     ensures { ⟦<DistributionPoint<'a> as Form>⟧.parse ≡ parse_of distribution_point }
 {}

@@ -237,7 +237,7 @@ impl<'a> DuplicateIsEqual for DistributionPointName<'a> {
     ghost copy_is_equal = { ⟦<DistributionPointName<'a> as CopyLaws>⟧.copies.laws.equal_are };
 }
 
-/// What is read as `DistributionPointName` is what the page of the grammar says.
+/// What is read as `DistributionPointName` is what the grammar page says.
 pub fn grammar_of_distribution_point_name<'a>()
     ensures { ⟦<DistributionPointName<'a> as Form>⟧.parse ≡ parse_of distribution_point_name }
 {}

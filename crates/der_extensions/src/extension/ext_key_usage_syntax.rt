@@ -109,7 +109,7 @@ impl<'a> ContentsEq for ExtKeyUsageSyntax<'a> {
 
 impl<'a> CopyIsDuplicate for ExtKeyUsageSyntax<'a> {}
 
-/// What is read as `ExtKeyUsageSyntax` is what the page of the grammar says.
+/// What is read as `ExtKeyUsageSyntax` is what the grammar page says.
 pub fn grammar_of_ext_key_usage_syntax<'a>()
     ensures { ⟦<ExtKeyUsageSyntax<'a> as Form>⟧.parse ≡ parse_of ext_key_usage_syntax }
 {}

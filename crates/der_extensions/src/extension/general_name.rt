@@ -345,7 +345,7 @@ impl<'a> DuplicateIsEqual for GeneralName<'a> {
     ghost copy_is_equal = { ⟦<GeneralName<'a> as CopyLaws>⟧.copies.laws.equal_are };
 }
 
-/// What is read as `GeneralName` is what the page of the grammar says.
+/// What is read as `GeneralName` is what the grammar page says.
 pub fn grammar_of_general_name<'a>()
     ensures { ⟦<GeneralName<'a> as Form>⟧.parse ≡ parse_of general_name }
 {}

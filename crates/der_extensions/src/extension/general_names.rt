@@ -109,7 +109,7 @@ impl<'a> ContentsEq for GeneralNames<'a> {
 
 impl<'a> CopyIsDuplicate for GeneralNames<'a> {}
 
-/// What is read as `GeneralNames` is what the page of the grammar says.
+/// What is read as `GeneralNames` is what the grammar page says.
 pub fn grammar_of_general_names<'a>()
     ensures { ⟦<GeneralNames<'a> as Form>⟧.parse ≡ parse_of general_names }
 {}

@@ -165,7 +165,7 @@ impl<'a> ContentsEq for GeneralSubtree<'a> {
 
 impl<'a> CopyIsDuplicate for GeneralSubtree<'a> {}
 
-/// What is read as `GeneralSubtree` is what the page of the grammar says.
+/// What is read as `GeneralSubtree` is what the grammar page says.
 pub fn grammar_of_general_subtree<'a>()
     ensures { ⟦<GeneralSubtree<'a> as Form>⟧.parse ≡ parse_of general_subtree }
 {}

@@ -109,7 +109,7 @@ impl<'a> ContentsEq for GeneralSubtrees<'a> {
 
 impl<'a> CopyIsDuplicate for GeneralSubtrees<'a> {}
 
-/// What is read as `GeneralSubtrees` is what the page of the grammar says.
+/// What is read as `GeneralSubtrees` is what the grammar page says.
 pub fn grammar_of_general_subtrees<'a>()
     ensures { ⟦<GeneralSubtrees<'a> as Form>⟧.parse ≡ parse_of general_subtrees }
 {}

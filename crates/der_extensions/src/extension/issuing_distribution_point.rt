@@ -219,7 +219,7 @@ impl<'a> ContentsEq for IssuingDistributionPoint<'a> {
 
 impl<'a> CopyIsDuplicate for IssuingDistributionPoint<'a> {}
 
-/// What is read as `IssuingDistributionPoint` is what the page of the grammar says.
+/// What is read as `IssuingDistributionPoint` is what the grammar page says.
 pub fn grammar_of_issuing_distribution_point<'a>()
     ensures { ⟦<IssuingDistributionPoint<'a> as Form>⟧.parse ≡ parse_of issuing_distribution_point }
 {}

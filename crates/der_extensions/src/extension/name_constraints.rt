@@ -148,7 +148,7 @@ impl<'a> ContentsEq for NameConstraints<'a> {
 
 impl<'a> CopyIsDuplicate for NameConstraints<'a> {}
 
-/// What is read as `NameConstraints` is what the page of the grammar says.
+/// What is read as `NameConstraints` is what the grammar page says.
 pub fn grammar_of_name_constraints<'a>()
     ensures { ⟦<NameConstraints<'a> as Form>⟧.parse ≡ parse_of name_constraints }
 {}

@@ -145,7 +145,7 @@ impl<'a> ContentsEq for PolicyConstraints<'a> {
 
 impl<'a> CopyIsDuplicate for PolicyConstraints<'a> {}
 
-/// What is read as `PolicyConstraints` is what the page of the grammar says.
+/// What is read as `PolicyConstraints` is what the grammar page says.
 pub fn grammar_of_policy_constraints<'a>()
     ensures { ⟦<PolicyConstraints<'a> as Form>⟧.parse ≡ parse_of policy_constraints }
 {}

@@ -151,7 +151,7 @@ impl<'a> ContentsEq for PolicyInformation<'a> {
 
 impl<'a> CopyIsDuplicate for PolicyInformation<'a> {}
 
-/// What is read as `PolicyInformation` is what the page of the grammar says.
+/// What is read as `PolicyInformation` is what the grammar page says.
 pub fn grammar_of_policy_information<'a>()
     ensures { ⟦<PolicyInformation<'a> as Form>⟧.parse ≡ parse_of policy_information }
 {}

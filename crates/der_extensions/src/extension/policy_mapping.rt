@@ -137,7 +137,7 @@ impl<'a> ContentsEq for PolicyMapping<'a> {
 
 impl<'a> CopyIsDuplicate for PolicyMapping<'a> {}
 
-/// What is read as `PolicyMapping` is what the page of the grammar says.
+/// What is read as `PolicyMapping` is what the grammar page says.
 pub fn grammar_of_policy_mapping<'a>()
     ensures { ⟦<PolicyMapping<'a> as Form>⟧.parse ≡ parse_of policy_mapping }
 {}

@@ -111,7 +111,7 @@ impl<'a> ContentsEq for PolicyMappings<'a> {
 
 impl<'a> CopyIsDuplicate for PolicyMappings<'a> {}
 
-/// What is read as `PolicyMappings` is what the page of the grammar says.
+/// What is read as `PolicyMappings` is what the grammar page says.
 pub fn grammar_of_policy_mappings<'a>()
     ensures { ⟦<PolicyMappings<'a> as Form>⟧.parse ≡ parse_of policy_mappings }
 {}

@@ -142,7 +142,7 @@ impl<'a> ContentsEq for PolicyQualifierInfo<'a> {
 
 impl<'a> CopyIsDuplicate for PolicyQualifierInfo<'a> {}
 
-/// What is read as `PolicyQualifierInfo` is what the page of the grammar says.
+/// What is read as `PolicyQualifierInfo` is what the grammar page says.
 pub fn grammar_of_policy_qualifier_info<'a>()
     ensures { ⟦<PolicyQualifierInfo<'a> as Form>⟧.parse ≡ parse_of policy_qualifier_info }
 {}

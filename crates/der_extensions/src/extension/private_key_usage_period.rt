@@ -144,7 +144,7 @@ impl ContentsEq for PrivateKeyUsagePeriod {
 
 impl CopyIsDuplicate for PrivateKeyUsagePeriod {}
 
-/// What is read as `PrivateKeyUsagePeriod` is what the page of the grammar says.
+/// What is read as `PrivateKeyUsagePeriod` is what the grammar page says.
 pub fn grammar_of_private_key_usage_period()
     ensures { ⟦<PrivateKeyUsagePeriod as Form>⟧.parse ≡ parse_of private_key_usage_period }
 {}

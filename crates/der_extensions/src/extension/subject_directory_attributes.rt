@@ -107,7 +107,7 @@ impl<'a> ContentsEq for SubjectDirectoryAttributes<'a> {
 
 impl<'a> CopyIsDuplicate for SubjectDirectoryAttributes<'a> {}
 
-/// What is read as `SubjectDirectoryAttributes` is what the page of the grammar says.
+/// What is read as `SubjectDirectoryAttributes` is what the grammar page says.
 pub fn grammar_of_subject_directory_attributes<'a>()
     ensures { ⟦<SubjectDirectoryAttributes<'a> as Form>⟧.parse ≡ parse_of subject_directory_attributes }
 {}

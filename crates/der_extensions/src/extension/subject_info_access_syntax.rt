@@ -112,7 +112,7 @@ impl<'a> ContentsEq for SubjectInfoAccessSyntax<'a> {
 
 impl<'a> CopyIsDuplicate for SubjectInfoAccessSyntax<'a> {}
 
-/// What is read as `SubjectInfoAccessSyntax` is what the page of the grammar says.
+/// What is read as `SubjectInfoAccessSyntax` is what the grammar page says.
 pub fn grammar_of_subject_info_access_syntax<'a>()
     ensures { ⟦<SubjectInfoAccessSyntax<'a> as Form>⟧.parse ≡ parse_of subject_info_access_syntax }
 {}

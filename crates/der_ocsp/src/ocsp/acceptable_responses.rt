@@ -108,7 +108,7 @@ impl<'a> ContentsEq for AcceptableResponses<'a> {
 
 impl<'a> CopyIsDuplicate for AcceptableResponses<'a> {}
 
-/// What is read as `AcceptableResponses` is what the page of the grammar says.
+/// What is read as `AcceptableResponses` is what the grammar page says.
 pub fn grammar_of_acceptable_responses<'a>()
     ensures { ⟦<AcceptableResponses<'a> as Form>⟧.parse ≡ parse_of acceptable_responses }
 {}

@@ -1,4 +1,4 @@
-//! Second names of types in OCSP-2013-88.
+//! Type aliases of OCSP-2013-88.
 //!
 //! Made by tools/asn1 from ocsp.asn1.
 
@@ -17,7 +17,7 @@ use der_time::GeneralizedTime;
 /// A number outside 0..255 is refused: the names alone say how wide the type is.
 pub type Version = u8;
 
-/// What is read as `Version` is what the page of the grammar says.
+/// What is read as `Version` is what the grammar page says.
 pub fn grammar_of_version()
     ensures { ⟦<Version as Form>⟧.parse ≡ parse_of version }
 {}
@@ -30,7 +30,7 @@ pub const VERSION_V1: u8 = 0;
 /// ```
 pub type KeyHash<'a> = OctetStringRef<'a>;
 
-/// What is read as `KeyHash` is what the page of the grammar says.
+/// What is read as `KeyHash` is what the grammar page says.
 pub fn grammar_of_key_hash<'a>()
     ensures { ⟦<KeyHash<'a> as Form>⟧.parse ≡ parse_of key_hash }
 {}
@@ -40,7 +40,7 @@ pub fn grammar_of_key_hash<'a>()
 /// ```
 pub type UnknownInfo = Null;
 
-/// What is read as `UnknownInfo` is what the page of the grammar says.
+/// What is read as `UnknownInfo` is what the grammar page says.
 pub fn grammar_of_unknown_info()
     ensures { ⟦<UnknownInfo as Form>⟧.parse ≡ parse_of unknown_info }
 {}
@@ -52,7 +52,7 @@ pub fn grammar_of_unknown_info()
 /// Not checked: SIZE (1..32) is not checked.
 pub type Nonce<'a> = OctetStringRef<'a>;
 
-/// What is read as `Nonce` is what the page of the grammar says.
+/// What is read as `Nonce` is what the grammar page says.
 pub fn grammar_of_nonce<'a>()
     ensures { ⟦<Nonce<'a> as Form>⟧.parse ≡ parse_of nonce }
 {}
@@ -62,7 +62,7 @@ pub fn grammar_of_nonce<'a>()
 /// ```
 pub type ArchiveCutoff = GeneralizedTime;
 
-/// What is read as `ArchiveCutoff` is what the page of the grammar says.
+/// What is read as `ArchiveCutoff` is what the grammar page says.
 pub fn grammar_of_archive_cutoff()
     ensures { ⟦<ArchiveCutoff as Form>⟧.parse ≡ parse_of archive_cutoff }
 {}
@@ -72,7 +72,7 @@ pub fn grammar_of_archive_cutoff()
 /// ```
 pub type ExtendedRevoke = Null;
 
-/// What is read as `ExtendedRevoke` is what the page of the grammar says.
+/// What is read as `ExtendedRevoke` is what the grammar page says.
 pub fn grammar_of_extended_revoke()
     ensures { ⟦<ExtendedRevoke as Form>⟧.parse ≡ parse_of extended_revoke }
 {}

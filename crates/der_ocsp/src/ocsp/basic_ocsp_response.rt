@@ -179,7 +179,7 @@ impl<'a> ContentsEq for BasicOcspResponse<'a> {
 
 impl<'a> CopyIsDuplicate for BasicOcspResponse<'a> {}
 
-/// What is read as `BasicOCSPResponse` is what the page of the grammar says.
+/// What is read as `BasicOCSPResponse` is what the grammar page says.
 pub fn grammar_of_basic_ocsp_response<'a>()
     ensures { ⟦<BasicOcspResponse<'a> as Form>⟧.parse ≡ parse_of basic_ocsp_response }
 {}

@@ -173,7 +173,7 @@ impl<'a> ContentsEq for CertId<'a> {
 
 impl<'a> CopyIsDuplicate for CertId<'a> {}
 
-/// What is read as `CertID` is what the page of the grammar says.
+/// What is read as `CertID` is what the grammar page says.
 pub fn grammar_of_cert_id<'a>()
     ensures { ⟦<CertId<'a> as Form>⟧.parse ≡ parse_of cert_id }
 {}

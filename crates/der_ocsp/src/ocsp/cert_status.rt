@@ -240,7 +240,7 @@ impl DuplicateIsEqual for CertStatus {
     ghost copy_is_equal = { ⟦<CertStatus as CopyLaws>⟧.copies.laws.equal_are };
 }
 
-/// What is read as `CertStatus` is what the page of the grammar says.
+/// What is read as `CertStatus` is what the grammar page says.
 pub fn grammar_of_cert_status()
     ensures { ⟦<CertStatus as Form>⟧.parse ≡ parse_of cert_status }
 {}

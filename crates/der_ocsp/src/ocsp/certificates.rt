@@ -106,7 +106,7 @@ impl<'a> ContentsEq for Certificates<'a> {
 
 impl<'a> CopyIsDuplicate for Certificates<'a> {}
 
-/// What is read as `Certificates` is what the page of the grammar says.
+/// What is read as `Certificates` is what the grammar page says.
 pub fn grammar_of_certificates<'a>()
     ensures { ⟦<Certificates<'a> as Form>⟧.parse ≡ parse_of certificates }
 {}

@@ -160,7 +160,7 @@ impl<'a> ContentsEq for CrlId<'a> {
 
 impl<'a> CopyIsDuplicate for CrlId<'a> {}
 
-/// What is read as `CrlID` is what the page of the grammar says.
+/// What is read as `CrlID` is what the grammar page says.
 pub fn grammar_of_crl_id<'a>()
     ensures { ⟦<CrlId<'a> as Form>⟧.parse ≡ parse_of crl_id }
 {}

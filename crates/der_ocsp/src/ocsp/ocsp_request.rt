@@ -146,7 +146,7 @@ impl<'a> ContentsEq for OcspRequest<'a> {
 
 impl<'a> CopyIsDuplicate for OcspRequest<'a> {}
 
-/// What is read as `OCSPRequest` is what the page of the grammar says.
+/// What is read as `OCSPRequest` is what the grammar page says.
 pub fn grammar_of_ocsp_request<'a>()
     ensures { ⟦<OcspRequest<'a> as Form>⟧.parse ≡ parse_of ocsp_request }
 {}

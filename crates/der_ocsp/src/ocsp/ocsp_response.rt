@@ -149,7 +149,7 @@ impl<'a> ContentsEq for OcspResponse<'a> {
 
 impl<'a> CopyIsDuplicate for OcspResponse<'a> {}
 
-/// What is read as `OCSPResponse` is what the page of the grammar says.
+/// What is read as `OCSPResponse` is what the grammar page says.
 pub fn grammar_of_ocsp_response<'a>()
     ensures { ⟦<OcspResponse<'a> as Form>⟧.parse ≡ parse_of ocsp_response }
 {}

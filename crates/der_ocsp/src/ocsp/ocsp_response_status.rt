@@ -68,7 +68,7 @@ impl Enumeration for OcspResponseStatus {
     }
 }
 
-/// What is read as `OCSPResponseStatus` is what the page of the grammar says.
+/// What is read as `OCSPResponseStatus` is what the grammar page says.
 pub fn grammar_of_ocsp_response_status()
     ensures { ⟦<Enumerated<OcspResponseStatus> as Form>⟧.parse ≡ parse_of ocsp_response_status }
 {}

@@ -145,7 +145,7 @@ impl<'a> ContentsEq for PreferredSignatureAlgorithm<'a> {
 
 impl<'a> CopyIsDuplicate for PreferredSignatureAlgorithm<'a> {}
 
-/// What is read as `PreferredSignatureAlgorithm` is what the page of the grammar says.
+/// What is read as `PreferredSignatureAlgorithm` is what the grammar page says.
 pub fn grammar_of_preferred_signature_algorithm<'a>()
     ensures { ⟦<PreferredSignatureAlgorithm<'a> as Form>⟧.parse ≡ parse_of preferred_signature_algorithm }
 {}

@@ -110,7 +110,7 @@ impl<'a> ContentsEq for PreferredSignatureAlgorithms<'a> {
 
 impl<'a> CopyIsDuplicate for PreferredSignatureAlgorithms<'a> {}
 
-/// What is read as `PreferredSignatureAlgorithms` is what the page of the grammar says.
+/// What is read as `PreferredSignatureAlgorithms` is what the grammar page says.
 pub fn grammar_of_preferred_signature_algorithms<'a>()
     ensures { ⟦<PreferredSignatureAlgorithms<'a> as Form>⟧.parse ≡ parse_of preferred_signature_algorithms }
 {}

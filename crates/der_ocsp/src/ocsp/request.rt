@@ -145,7 +145,7 @@ impl<'a> ContentsEq for Request<'a> {
 
 impl<'a> CopyIsDuplicate for Request<'a> {}
 
-/// What is read as `Request` is what the page of the grammar says.
+/// What is read as `Request` is what the grammar page says.
 pub fn grammar_of_request<'a>()
     ensures { ⟦<Request<'a> as Form>⟧.parse ≡ parse_of request }
 {}

@@ -102,7 +102,7 @@ impl<'a> ContentsEq for Requests<'a> {
 
 impl<'a> CopyIsDuplicate for Requests<'a> {}
 
-/// What is read as `Requests` is what the page of the grammar says.
+/// What is read as `Requests` is what the grammar page says.
 pub fn grammar_of_requests<'a>()
     ensures { ⟦<Requests<'a> as Form>⟧.parse ≡ parse_of requests }
 {}

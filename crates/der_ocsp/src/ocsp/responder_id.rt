@@ -231,7 +231,7 @@ impl<'a> DuplicateIsEqual for ResponderId<'a> {
     ghost copy_is_equal = { ⟦<ResponderId<'a> as CopyLaws>⟧.copies.laws.equal_are };
 }
 
-/// What is read as `ResponderID` is what the page of the grammar says.
+/// What is read as `ResponderID` is what the grammar page says.
 pub fn grammar_of_responder_id<'a>()
     ensures { ⟦<ResponderId<'a> as Form>⟧.parse ≡ parse_of responder_id }
 {}

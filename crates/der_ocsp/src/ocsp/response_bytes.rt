@@ -141,7 +141,7 @@ impl<'a> ContentsEq for ResponseBytes<'a> {
 
 impl<'a> CopyIsDuplicate for ResponseBytes<'a> {}
 
-/// What is read as `ResponseBytes` is what the page of the grammar says.
+/// What is read as `ResponseBytes` is what the grammar page says.
 pub fn grammar_of_response_bytes<'a>()
     ensures { ⟦<ResponseBytes<'a> as Form>⟧.parse ≡ parse_of response_bytes }
 {}

@@ -197,7 +197,7 @@ impl<'a> ContentsEq for ResponseData<'a> {
 
 impl<'a> CopyIsDuplicate for ResponseData<'a> {}
 
-/// What is read as `ResponseData` is what the page of the grammar says.
+/// What is read as `ResponseData` is what the grammar page says.
 pub fn grammar_of_response_data<'a>()
     ensures { ⟦<ResponseData<'a> as Form>⟧.parse ≡ parse_of response_data }
 {}

@@ -142,7 +142,7 @@ impl ContentsEq for RevokedInfo {
 
 impl CopyIsDuplicate for RevokedInfo {}
 
-/// What is read as `RevokedInfo` is what the page of the grammar says.
+/// What is read as `RevokedInfo` is what the grammar page says.
 pub fn grammar_of_revoked_info()
     ensures { ⟦<RevokedInfo as Form>⟧.parse ≡ parse_of revoked_info }
 {}

@@ -139,7 +139,7 @@ impl<'a> ContentsEq for ServiceLocator<'a> {
 
 impl<'a> CopyIsDuplicate for ServiceLocator<'a> {}
 
-/// What is read as `ServiceLocator` is what the page of the grammar says.
+/// What is read as `ServiceLocator` is what the grammar page says.
 pub fn grammar_of_service_locator<'a>()
     ensures { ⟦<ServiceLocator<'a> as Form>⟧.parse ≡ parse_of service_locator }
 {}

@@ -164,7 +164,7 @@ impl<'a> ContentsEq for Signature<'a> {
 
 impl<'a> CopyIsDuplicate for Signature<'a> {}
 
-/// What is read as `Signature` is what the page of the grammar says.
+/// What is read as `Signature` is what the grammar page says.
 pub fn grammar_of_signature<'a>()
     ensures { ⟦<Signature<'a> as Form>⟧.parse ≡ parse_of signature }
 {}

@@ -106,7 +106,7 @@ impl<'a> ContentsEq for SingleResponses<'a> {
 
 impl<'a> CopyIsDuplicate for SingleResponses<'a> {}
 
-/// What is read as `SingleResponses` is what the page of the grammar says.
+/// What is read as `SingleResponses` is what the grammar page says.
 pub fn grammar_of_single_responses<'a>()
     ensures { ⟦<SingleResponses<'a> as Form>⟧.parse ≡ parse_of single_responses }
 {}

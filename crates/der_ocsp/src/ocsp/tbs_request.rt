@@ -182,7 +182,7 @@ impl<'a> ContentsEq for TbsRequest<'a> {
 
 impl<'a> CopyIsDuplicate for TbsRequest<'a> {}
 
-/// What is read as `TBSRequest` is what the page of the grammar says.
+/// What is read as `TBSRequest` is what the grammar page says.
 pub fn grammar_of_tbs_request<'a>()
     ensures { ⟦<TbsRequest<'a> as Form>⟧.parse ≡ parse_of tbs_request }
 {}

@@ -1,4 +1,4 @@
-//! Second names of types in PkixAlgorithms.
+//! Type aliases of PkixAlgorithms.
 //!
 //! Made by tools/asn1 from algorithm.asn1.
 
@@ -16,7 +16,7 @@ use der_opaque::OctetStringRef;
 /// ```
 pub type DssSigValue<'a> = EcdsaSigValue<'a>;
 
-/// What is read as `Dss-Sig-Value` is what the page of the grammar says.
+/// What is read as `Dss-Sig-Value` is what the grammar page says.
 pub fn grammar_of_dss_sig_value<'a>()
     ensures { ⟦<DssSigValue<'a> as Form>⟧.parse ≡ parse_of dss_sig_value }
 {}
@@ -26,7 +26,7 @@ pub fn grammar_of_dss_sig_value<'a>()
 /// ```
 pub type DsaPublicKey<'a> = UintRef<'a>;
 
-/// What is read as `DSAPublicKey` is what the page of the grammar says.
+/// What is read as `DSAPublicKey` is what the grammar page says.
 pub fn grammar_of_dsa_public_key<'a>()
     ensures { ⟦<DsaPublicKey<'a> as Form>⟧.parse ≡ parse_of dsa_public_key }
 {}
@@ -36,7 +36,7 @@ pub fn grammar_of_dsa_public_key<'a>()
 /// ```
 pub type DhPublicKey<'a> = UintRef<'a>;
 
-/// What is read as `DHPublicKey` is what the page of the grammar says.
+/// What is read as `DHPublicKey` is what the grammar page says.
 pub fn grammar_of_dh_public_key<'a>()
     ensures { ⟦<DhPublicKey<'a> as Form>⟧.parse ≡ parse_of dh_public_key }
 {}
@@ -46,7 +46,7 @@ pub fn grammar_of_dh_public_key<'a>()
 /// ```
 pub type SignedCertificateTimestampList<'a> = OctetStringRef<'a>;
 
-/// What is read as `SignedCertificateTimestampList` is what the page of the grammar says.
+/// What is read as `SignedCertificateTimestampList` is what the grammar page says.
 pub fn grammar_of_signed_certificate_timestamp_list<'a>()
     ensures { ⟦<SignedCertificateTimestampList<'a> as Form>⟧.parse ≡ parse_of signed_certificate_timestamp_list }
 {}

@@ -156,7 +156,7 @@ impl<'a> ContentsEq for DhParameter<'a> {
 
 impl<'a> CopyIsDuplicate for DhParameter<'a> {}
 
-/// What is read as `DHParameter` is what the page of the grammar says.
+/// What is read as `DHParameter` is what the grammar page says.
 pub fn grammar_of_dh_parameter<'a>()
     ensures { ⟦<DhParameter<'a> as Form>⟧.parse ≡ parse_of dh_parameter }
 {}

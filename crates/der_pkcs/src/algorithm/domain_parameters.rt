@@ -191,7 +191,7 @@ impl<'a> ContentsEq for DomainParameters<'a> {
 
 impl<'a> CopyIsDuplicate for DomainParameters<'a> {}
 
-/// What is read as `DomainParameters` is what the page of the grammar says.
+/// What is read as `DomainParameters` is what the grammar page says.
 pub fn grammar_of_domain_parameters<'a>()
     ensures { ⟦<DomainParameters<'a> as Form>⟧.parse ≡ parse_of domain_parameters }
 {}

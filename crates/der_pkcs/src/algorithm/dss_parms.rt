@@ -145,7 +145,7 @@ impl<'a> ContentsEq for DssParms<'a> {
 
 impl<'a> CopyIsDuplicate for DssParms<'a> {}
 
-/// What is read as `Dss-Parms` is what the page of the grammar says.
+/// What is read as `Dss-Parms` is what the grammar page says.
 pub fn grammar_of_dss_parms<'a>()
     ensures { ⟦<DssParms<'a> as Form>⟧.parse ≡ parse_of dss_parms }
 {}

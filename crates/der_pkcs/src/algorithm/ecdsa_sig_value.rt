@@ -138,7 +138,7 @@ impl<'a> ContentsEq for EcdsaSigValue<'a> {
 
 impl<'a> CopyIsDuplicate for EcdsaSigValue<'a> {}
 
-/// What is read as `ECDSA-Sig-Value` is what the page of the grammar says.
+/// What is read as `ECDSA-Sig-Value` is what the grammar page says.
 pub fn grammar_of_ecdsa_sig_value<'a>()
     ensures { ⟦<EcdsaSigValue<'a> as Form>⟧.parse ≡ parse_of ecdsa_sig_value }
 {}

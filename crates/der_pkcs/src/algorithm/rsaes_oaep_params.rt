@@ -164,7 +164,7 @@ impl<'a> ContentsEq for RsaesOaepParams<'a> {
 
 impl<'a> CopyIsDuplicate for RsaesOaepParams<'a> {}
 
-/// What is read as `RSAES-OAEP-params` is what the page of the grammar says.
+/// What is read as `RSAES-OAEP-params` is what the grammar page says.
 pub fn grammar_of_rsaes_oaep_params<'a>()
     ensures { ⟦<RsaesOaepParams<'a> as Form>⟧.parse ≡ parse_of rsaes_oaep_params }
 {}

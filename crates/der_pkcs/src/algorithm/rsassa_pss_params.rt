@@ -187,7 +187,7 @@ impl<'a> ContentsEq for RsassaPssParams<'a> {
 
 impl<'a> CopyIsDuplicate for RsassaPssParams<'a> {}
 
-/// What is read as `RSASSA-PSS-params` is what the page of the grammar says.
+/// What is read as `RSASSA-PSS-params` is what the grammar page says.
 pub fn grammar_of_rsassa_pss_params<'a>()
     ensures { ⟦<RsassaPssParams<'a> as Form>⟧.parse ≡ parse_of rsassa_pss_params }
 {}

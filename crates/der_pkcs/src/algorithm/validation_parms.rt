@@ -139,7 +139,7 @@ impl<'a> ContentsEq for ValidationParms<'a> {
 
 impl<'a> CopyIsDuplicate for ValidationParms<'a> {}
 
-/// What is read as `ValidationParms` is what the page of the grammar says.
+/// What is read as `ValidationParms` is what the grammar page says.
 pub fn grammar_of_validation_parms<'a>()
     ensures { ⟦<ValidationParms<'a> as Form>⟧.parse ≡ parse_of validation_parms }
 {}

@@ -1,4 +1,4 @@
-//! Second names of types in PkcsEncryption.
+//! Type aliases of PkcsEncryption.
 //!
 //! Made by tools/asn1 from encryption.asn1.
 
@@ -15,7 +15,7 @@ use der_opaque::OctetStringRef;
 /// ```
 pub type Pbmac1Params<'a> = Pbes2Params<'a>;
 
-/// What is read as `PBMAC1-params` is what the page of the grammar says.
+/// What is read as `PBMAC1-params` is what the grammar page says.
 pub fn grammar_of_pbmac1_params<'a>()
     ensures { ⟦<Pbmac1Params<'a> as Form>⟧.parse ≡ parse_of pbmac1_params }
 {}
@@ -25,7 +25,7 @@ pub fn grammar_of_pbmac1_params<'a>()
 /// ```
 pub type Iv<'a> = OctetStringRef<'a>;
 
-/// What is read as `IV` is what the page of the grammar says.
+/// What is read as `IV` is what the grammar page says.
 pub fn grammar_of_iv<'a>()
     ensures { ⟦<Iv<'a> as Form>⟧.parse ≡ parse_of iv }
 {}

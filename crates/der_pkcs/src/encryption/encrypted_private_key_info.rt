@@ -142,7 +142,7 @@ impl<'a> ContentsEq for EncryptedPrivateKeyInfo<'a> {
 
 impl<'a> CopyIsDuplicate for EncryptedPrivateKeyInfo<'a> {}
 
-/// What is read as `EncryptedPrivateKeyInfo` is what the page of the grammar says.
+/// What is read as `EncryptedPrivateKeyInfo` is what the grammar page says.
 pub fn grammar_of_encrypted_private_key_info<'a>()
     ensures { ⟦<EncryptedPrivateKeyInfo<'a> as Form>⟧.parse ≡ parse_of encrypted_private_key_info }
 {}

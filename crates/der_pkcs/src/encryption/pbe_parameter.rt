@@ -143,7 +143,7 @@ impl<'a> ContentsEq for PbeParameter<'a> {
 
 impl<'a> CopyIsDuplicate for PbeParameter<'a> {}
 
-/// What is read as `PBEParameter` is what the page of the grammar says.
+/// What is read as `PBEParameter` is what the grammar page says.
 pub fn grammar_of_pbe_parameter<'a>()
     ensures { ⟦<PbeParameter<'a> as Form>⟧.parse ≡ parse_of pbe_parameter }
 {}

@@ -141,7 +141,7 @@ impl<'a> ContentsEq for Pbes2Params<'a> {
 
 impl<'a> CopyIsDuplicate for Pbes2Params<'a> {}
 
-/// What is read as `PBES2-params` is what the page of the grammar says.
+/// What is read as `PBES2-params` is what the grammar page says.
 pub fn grammar_of_pbes2_params<'a>()
     ensures { ⟦<Pbes2Params<'a> as Form>⟧.parse ≡ parse_of pbes2_params }
 {}

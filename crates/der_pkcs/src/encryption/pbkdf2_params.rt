@@ -178,7 +178,7 @@ impl<'a> ContentsEq for Pbkdf2Params<'a> {
 
 impl<'a> CopyIsDuplicate for Pbkdf2Params<'a> {}
 
-/// What is read as `PBKDF2-params` is what the page of the grammar says.
+/// What is read as `PBKDF2-params` is what the grammar page says.
 pub fn grammar_of_pbkdf2_params<'a>()
     ensures { ⟦<Pbkdf2Params<'a> as Form>⟧.parse ≡ parse_of pbkdf2_params }
 {}

@@ -229,7 +229,7 @@ impl<'a> DuplicateIsEqual for Pbkdf2Salt<'a> {
     ghost copy_is_equal = { ⟦<Pbkdf2Salt<'a> as CopyLaws>⟧.copies.laws.equal_are };
 }
 
-/// What is read as `Pbkdf2Salt` is what the page of the grammar says.
+/// What is read as `Pbkdf2Salt` is what the grammar page says.
 pub fn grammar_of_pbkdf2_salt<'a>()
     ensures { ⟦<Pbkdf2Salt<'a> as Form>⟧.parse ≡ parse_of pbkdf2_salt }
 {}

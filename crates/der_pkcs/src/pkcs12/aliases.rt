@@ -1,4 +1,4 @@
-//! Second names of types in PKCS-12.
+//! Type aliases of PKCS-12.
 //!
 //! Made by tools/asn1 from pkcs12.asn1.
 
@@ -15,7 +15,7 @@ use der_pkix::key::PrivateKeyInfo;
 /// A number outside 0..255 is refused: the names alone say how wide the type is.
 pub type PfxVersion = u8;
 
-/// What is read as `PfxVersion` is what the page of the grammar says.
+/// What is read as `PfxVersion` is what the grammar page says.
 pub fn grammar_of_pfx_version()
     ensures { ⟦<PfxVersion as Form>⟧.parse ≡ parse_of pfx_version }
 {}
@@ -28,7 +28,7 @@ pub const PFX_VERSION_V3: u8 = 3;
 /// ```
 pub type KeyBag<'a> = PrivateKeyInfo<'a>;
 
-/// What is read as `KeyBag` is what the page of the grammar says.
+/// What is read as `KeyBag` is what the grammar page says.
 pub fn grammar_of_key_bag<'a>()
     ensures { ⟦<KeyBag<'a> as Form>⟧.parse ≡ parse_of key_bag }
 {}
@@ -38,7 +38,7 @@ pub fn grammar_of_key_bag<'a>()
 /// ```
 pub type Pkcs8ShroudedKeyBag<'a> = EncryptedPrivateKeyInfo<'a>;
 
-/// What is read as `PKCS8ShroudedKeyBag` is what the page of the grammar says.
+/// What is read as `PKCS8ShroudedKeyBag` is what the grammar page says.
 pub fn grammar_of_pkcs8_shrouded_key_bag<'a>()
     ensures { ⟦<Pkcs8ShroudedKeyBag<'a> as Form>⟧.parse ≡ parse_of pkcs8_shrouded_key_bag }
 {}
@@ -48,7 +48,7 @@ pub fn grammar_of_pkcs8_shrouded_key_bag<'a>()
 /// ```
 pub type Pkcs12PbeParams<'a> = PbeParameter<'a>;
 
-/// What is read as `Pkcs-12PbeParams` is what the page of the grammar says.
+/// What is read as `Pkcs-12PbeParams` is what the grammar page says.
 pub fn grammar_of_pkcs12_pbe_params<'a>()
     ensures { ⟦<Pkcs12PbeParams<'a> as Form>⟧.parse ≡ parse_of pkcs12_pbe_params }
 {}

@@ -106,7 +106,7 @@ impl<'a> ContentsEq for AuthenticatedSafe<'a> {
 
 impl<'a> CopyIsDuplicate for AuthenticatedSafe<'a> {}
 
-/// What is read as `AuthenticatedSafe` is what the page of the grammar says.
+/// What is read as `AuthenticatedSafe` is what the grammar page says.
 pub fn grammar_of_authenticated_safe<'a>()
     ensures { ⟦<AuthenticatedSafe<'a> as Form>⟧.parse ≡ parse_of authenticated_safe }
 {}

@@ -134,7 +134,7 @@ impl<'a> ContentsEq for CertBag<'a> {
 
 impl<'a> CopyIsDuplicate for CertBag<'a> {}
 
-/// What is read as `CertBag` is what the page of the grammar says.
+/// What is read as `CertBag` is what the grammar page says.
 pub fn grammar_of_cert_bag<'a>()
     ensures { ⟦<CertBag<'a> as Form>⟧.parse ≡ parse_of cert_bag }
 {}

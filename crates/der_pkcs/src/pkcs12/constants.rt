@@ -6,21 +6,21 @@
 /// pkcs-12  OBJECT IDENTIFIER ::= { rsadsi pkcs(1) 12 }
 /// ```
 ///
-/// It is 1.2.840.113549.1.12, as contents octets.
+/// 1.2.840.113549.1.12, as contents octets.
 pub const PKCS_12: [u8; 8] = [0x2a, 0x86, 0x48, 0x86, 0xf7, 0x0d, 0x01, 0x0c];
 
 /// ```text
 /// bagtypes  OBJECT IDENTIFIER ::= { pkcs-12 10 1 }
 /// ```
 ///
-/// It is 1.2.840.113549.1.12.10.1, as contents octets.
+/// 1.2.840.113549.1.12.10.1, as contents octets.
 pub const BAGTYPES: [u8; 10] = [0x2a, 0x86, 0x48, 0x86, 0xf7, 0x0d, 0x01, 0x0c, 0x0a, 0x01];
 
 /// ```text
 /// keyBag               OBJECT IDENTIFIER ::= { bagtypes 1 }
 /// ```
 ///
-/// It is 1.2.840.113549.1.12.10.1.1, as contents octets.
+/// 1.2.840.113549.1.12.10.1.1, as contents octets.
 pub const KEY_BAG: [u8; 11] = [
     0x2a, 0x86, 0x48, 0x86, 0xf7, 0x0d, 0x01, 0x0c, 0x0a, 0x01, 0x01,
 ];
@@ -29,7 +29,7 @@ pub const KEY_BAG: [u8; 11] = [
 /// pkcs8ShroudedKeyBag  OBJECT IDENTIFIER ::= { bagtypes 2 }
 /// ```
 ///
-/// It is 1.2.840.113549.1.12.10.1.2, as contents octets.
+/// 1.2.840.113549.1.12.10.1.2, as contents octets.
 pub const PKCS8_SHROUDED_KEY_BAG: [u8; 11] = [
     0x2a, 0x86, 0x48, 0x86, 0xf7, 0x0d, 0x01, 0x0c, 0x0a, 0x01, 0x02,
 ];
@@ -38,7 +38,7 @@ pub const PKCS8_SHROUDED_KEY_BAG: [u8; 11] = [
 /// certBag              OBJECT IDENTIFIER ::= { bagtypes 3 }
 /// ```
 ///
-/// It is 1.2.840.113549.1.12.10.1.3, as contents octets.
+/// 1.2.840.113549.1.12.10.1.3, as contents octets.
 pub const CERT_BAG: [u8; 11] = [
     0x2a, 0x86, 0x48, 0x86, 0xf7, 0x0d, 0x01, 0x0c, 0x0a, 0x01, 0x03,
 ];
@@ -47,7 +47,7 @@ pub const CERT_BAG: [u8; 11] = [
 /// crlBag               OBJECT IDENTIFIER ::= { bagtypes 4 }
 /// ```
 ///
-/// It is 1.2.840.113549.1.12.10.1.4, as contents octets.
+/// 1.2.840.113549.1.12.10.1.4, as contents octets.
 pub const CRL_BAG: [u8; 11] = [
     0x2a, 0x86, 0x48, 0x86, 0xf7, 0x0d, 0x01, 0x0c, 0x0a, 0x01, 0x04,
 ];
@@ -56,7 +56,7 @@ pub const CRL_BAG: [u8; 11] = [
 /// secretBag            OBJECT IDENTIFIER ::= { bagtypes 5 }
 /// ```
 ///
-/// It is 1.2.840.113549.1.12.10.1.5, as contents octets.
+/// 1.2.840.113549.1.12.10.1.5, as contents octets.
 pub const SECRET_BAG: [u8; 11] = [
     0x2a, 0x86, 0x48, 0x86, 0xf7, 0x0d, 0x01, 0x0c, 0x0a, 0x01, 0x05,
 ];
@@ -65,7 +65,7 @@ pub const SECRET_BAG: [u8; 11] = [
 /// safeContentsBag      OBJECT IDENTIFIER ::= { bagtypes 6 }
 /// ```
 ///
-/// It is 1.2.840.113549.1.12.10.1.6, as contents octets.
+/// 1.2.840.113549.1.12.10.1.6, as contents octets.
 pub const SAFE_CONTENTS_BAG: [u8; 11] = [
     0x2a, 0x86, 0x48, 0x86, 0xf7, 0x0d, 0x01, 0x0c, 0x0a, 0x01, 0x06,
 ];
@@ -74,63 +74,63 @@ pub const SAFE_CONTENTS_BAG: [u8; 11] = [
 /// certTypes  OBJECT IDENTIFIER ::= { pkcs-9 22 }
 /// ```
 ///
-/// It is 1.2.840.113549.1.9.22, as contents octets.
+/// 1.2.840.113549.1.9.22, as contents octets.
 pub const CERT_TYPES: [u8; 9] = [0x2a, 0x86, 0x48, 0x86, 0xf7, 0x0d, 0x01, 0x09, 0x16];
 
 /// ```text
 /// crlTypes   OBJECT IDENTIFIER ::= { pkcs-9 23 }
 /// ```
 ///
-/// It is 1.2.840.113549.1.9.23, as contents octets.
+/// 1.2.840.113549.1.9.23, as contents octets.
 pub const CRL_TYPES: [u8; 9] = [0x2a, 0x86, 0x48, 0x86, 0xf7, 0x0d, 0x01, 0x09, 0x17];
 
 /// ```text
 /// x509Certificate  OBJECT IDENTIFIER ::= { certTypes 1 }
 /// ```
 ///
-/// It is 1.2.840.113549.1.9.22.1, as contents octets.
+/// 1.2.840.113549.1.9.22.1, as contents octets.
 pub const X509_CERTIFICATE: [u8; 10] = [0x2a, 0x86, 0x48, 0x86, 0xf7, 0x0d, 0x01, 0x09, 0x16, 0x01];
 
 /// ```text
 /// sdsiCertificate  OBJECT IDENTIFIER ::= { certTypes 2 }
 /// ```
 ///
-/// It is 1.2.840.113549.1.9.22.2, as contents octets.
+/// 1.2.840.113549.1.9.22.2, as contents octets.
 pub const SDSI_CERTIFICATE: [u8; 10] = [0x2a, 0x86, 0x48, 0x86, 0xf7, 0x0d, 0x01, 0x09, 0x16, 0x02];
 
 /// ```text
 /// x509CRL          OBJECT IDENTIFIER ::= { crlTypes 1 }
 /// ```
 ///
-/// It is 1.2.840.113549.1.9.23.1, as contents octets.
+/// 1.2.840.113549.1.9.23.1, as contents octets.
 pub const X509_CRL: [u8; 10] = [0x2a, 0x86, 0x48, 0x86, 0xf7, 0x0d, 0x01, 0x09, 0x17, 0x01];
 
 /// ```text
 /// pkcs-9-at-friendlyName  OBJECT IDENTIFIER ::= { pkcs-9 20 }
 /// ```
 ///
-/// It is 1.2.840.113549.1.9.20, as contents octets.
+/// 1.2.840.113549.1.9.20, as contents octets.
 pub const PKCS_9_AT_FRIENDLY_NAME: [u8; 9] = [0x2a, 0x86, 0x48, 0x86, 0xf7, 0x0d, 0x01, 0x09, 0x14];
 
 /// ```text
 /// pkcs-9-at-localKeyId    OBJECT IDENTIFIER ::= { pkcs-9 21 }
 /// ```
 ///
-/// It is 1.2.840.113549.1.9.21, as contents octets.
+/// 1.2.840.113549.1.9.21, as contents octets.
 pub const PKCS_9_AT_LOCAL_KEY_ID: [u8; 9] = [0x2a, 0x86, 0x48, 0x86, 0xf7, 0x0d, 0x01, 0x09, 0x15];
 
 /// ```text
 /// pkcs-12PbeIds  OBJECT IDENTIFIER ::= { pkcs-12 1 }
 /// ```
 ///
-/// It is 1.2.840.113549.1.12.1, as contents octets.
+/// 1.2.840.113549.1.12.1, as contents octets.
 pub const PKCS_12_PBE_IDS: [u8; 9] = [0x2a, 0x86, 0x48, 0x86, 0xf7, 0x0d, 0x01, 0x0c, 0x01];
 
 /// ```text
 /// pbeWithSHAAnd128BitRC4           OBJECT IDENTIFIER ::= { pkcs-12PbeIds 1 }
 /// ```
 ///
-/// It is 1.2.840.113549.1.12.1.1, as contents octets.
+/// 1.2.840.113549.1.12.1.1, as contents octets.
 pub const PBE_WITH_SHA_AND128_BIT_RC4: [u8; 10] = [
     0x2a, 0x86, 0x48, 0x86, 0xf7, 0x0d, 0x01, 0x0c, 0x01, 0x01,
 ];
@@ -139,7 +139,7 @@ pub const PBE_WITH_SHA_AND128_BIT_RC4: [u8; 10] = [
 /// pbeWithSHAAnd40BitRC4            OBJECT IDENTIFIER ::= { pkcs-12PbeIds 2 }
 /// ```
 ///
-/// It is 1.2.840.113549.1.12.1.2, as contents octets.
+/// 1.2.840.113549.1.12.1.2, as contents octets.
 pub const PBE_WITH_SHA_AND40_BIT_RC4: [u8; 10] = [
     0x2a, 0x86, 0x48, 0x86, 0xf7, 0x0d, 0x01, 0x0c, 0x01, 0x02,
 ];
@@ -148,7 +148,7 @@ pub const PBE_WITH_SHA_AND40_BIT_RC4: [u8; 10] = [
 /// pbeWithSHAAnd3-KeyTripleDES-CBC  OBJECT IDENTIFIER ::= { pkcs-12PbeIds 3 }
 /// ```
 ///
-/// It is 1.2.840.113549.1.12.1.3, as contents octets.
+/// 1.2.840.113549.1.12.1.3, as contents octets.
 pub const PBE_WITH_SHA_AND3_KEY_TRIPLE_DES_CBC: [u8; 10] = [
     0x2a, 0x86, 0x48, 0x86, 0xf7, 0x0d, 0x01, 0x0c, 0x01, 0x03,
 ];
@@ -157,7 +157,7 @@ pub const PBE_WITH_SHA_AND3_KEY_TRIPLE_DES_CBC: [u8; 10] = [
 /// pbeWithSHAAnd2-KeyTripleDES-CBC  OBJECT IDENTIFIER ::= { pkcs-12PbeIds 4 }
 /// ```
 ///
-/// It is 1.2.840.113549.1.12.1.4, as contents octets.
+/// 1.2.840.113549.1.12.1.4, as contents octets.
 pub const PBE_WITH_SHA_AND2_KEY_TRIPLE_DES_CBC: [u8; 10] = [
     0x2a, 0x86, 0x48, 0x86, 0xf7, 0x0d, 0x01, 0x0c, 0x01, 0x04,
 ];
@@ -166,7 +166,7 @@ pub const PBE_WITH_SHA_AND2_KEY_TRIPLE_DES_CBC: [u8; 10] = [
 /// pbeWithSHAAnd128BitRC2-CBC       OBJECT IDENTIFIER ::= { pkcs-12PbeIds 5 }
 /// ```
 ///
-/// It is 1.2.840.113549.1.12.1.5, as contents octets.
+/// 1.2.840.113549.1.12.1.5, as contents octets.
 pub const PBE_WITH_SHA_AND128_BIT_RC2_CBC: [u8; 10] = [
     0x2a, 0x86, 0x48, 0x86, 0xf7, 0x0d, 0x01, 0x0c, 0x01, 0x05,
 ];
@@ -175,7 +175,7 @@ pub const PBE_WITH_SHA_AND128_BIT_RC2_CBC: [u8; 10] = [
 /// pbewithSHAAnd40BitRC2-CBC        OBJECT IDENTIFIER ::= { pkcs-12PbeIds 6 }
 /// ```
 ///
-/// It is 1.2.840.113549.1.12.1.6, as contents octets.
+/// 1.2.840.113549.1.12.1.6, as contents octets.
 pub const PBEWITH_SHA_AND40_BIT_RC2_CBC: [u8; 10] = [
     0x2a, 0x86, 0x48, 0x86, 0xf7, 0x0d, 0x01, 0x0c, 0x01, 0x06,
 ];

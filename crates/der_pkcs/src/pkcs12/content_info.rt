@@ -145,7 +145,7 @@ impl<'a> ContentsEq for ContentInfo<'a> {
 
 impl<'a> CopyIsDuplicate for ContentInfo<'a> {}
 
-/// What is read as `ContentInfo` is what the page of the grammar says.
+/// What is read as `ContentInfo` is what the grammar page says.
 pub fn grammar_of_content_info<'a>()
     ensures { ⟦<ContentInfo<'a> as Form>⟧.parse ≡ parse_of content_info }
 {}

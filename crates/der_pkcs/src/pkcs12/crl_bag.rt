@@ -134,7 +134,7 @@ impl<'a> ContentsEq for CrlBag<'a> {
 
 impl<'a> CopyIsDuplicate for CrlBag<'a> {}
 
-/// What is read as `CRLBag` is what the page of the grammar says.
+/// What is read as `CRLBag` is what the grammar page says.
 pub fn grammar_of_crl_bag<'a>()
     ensures { ⟦<CrlBag<'a> as Form>⟧.parse ≡ parse_of crl_bag }
 {}

@@ -142,7 +142,7 @@ impl<'a> ContentsEq for DigestInfo<'a> {
 
 impl<'a> CopyIsDuplicate for DigestInfo<'a> {}
 
-/// What is read as `DigestInfo` is what the page of the grammar says.
+/// What is read as `DigestInfo` is what the grammar page says.
 pub fn grammar_of_digest_info<'a>()
     ensures { ⟦<DigestInfo<'a> as Form>⟧.parse ≡ parse_of digest_info }
 {}

@@ -155,7 +155,7 @@ impl<'a> ContentsEq for MacData<'a> {
 
 impl<'a> CopyIsDuplicate for MacData<'a> {}
 
-/// What is read as `MacData` is what the page of the grammar says.
+/// What is read as `MacData` is what the grammar page says.
 pub fn grammar_of_mac_data<'a>()
     ensures { ⟦<MacData<'a> as Form>⟧.parse ≡ parse_of mac_data }
 {}

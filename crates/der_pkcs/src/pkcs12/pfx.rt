@@ -156,7 +156,7 @@ impl<'a> ContentsEq for Pfx<'a> {
 
 impl<'a> CopyIsDuplicate for Pfx<'a> {}
 
-/// What is read as `PFX` is what the page of the grammar says.
+/// What is read as `PFX` is what the grammar page says.
 pub fn grammar_of_pfx<'a>()
     ensures { ⟦<Pfx<'a> as Form>⟧.parse ≡ parse_of pfx }
 {}

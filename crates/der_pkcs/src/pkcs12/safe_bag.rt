@@ -159,7 +159,7 @@ impl<'a> ContentsEq for SafeBag<'a> {
 
 impl<'a> CopyIsDuplicate for SafeBag<'a> {}
 
-/// What is read as `SafeBag` is what the page of the grammar says.
+/// What is read as `SafeBag` is what the grammar page says.
 pub fn grammar_of_safe_bag<'a>()
     ensures { ⟦<SafeBag<'a> as Form>⟧.parse ≡ parse_of safe_bag }
 {}

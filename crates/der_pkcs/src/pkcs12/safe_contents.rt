@@ -106,7 +106,7 @@ impl<'a> ContentsEq for SafeContents<'a> {
 
 impl<'a> CopyIsDuplicate for SafeContents<'a> {}
 
-/// What is read as `SafeContents` is what the page of the grammar says.
+/// What is read as `SafeContents` is what the grammar page says.
 pub fn grammar_of_safe_contents<'a>()
     ensures { ⟦<SafeContents<'a> as Form>⟧.parse ≡ parse_of safe_contents }
 {}

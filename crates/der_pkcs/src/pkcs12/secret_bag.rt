@@ -141,7 +141,7 @@ impl<'a> ContentsEq for SecretBag<'a> {
 
 impl<'a> CopyIsDuplicate for SecretBag<'a> {}
 
-/// What is read as `SecretBag` is what the page of the grammar says.
+/// What is read as `SecretBag` is what the grammar page says.
 pub fn grammar_of_secret_bag<'a>()
     ensures { ⟦<SecretBag<'a> as Form>⟧.parse ≡ parse_of secret_bag }
 {}

@@ -1,4 +1,4 @@
-//! Second names of types in PKCS-10.
+//! Type aliases of PKCS-10.
 //!
 //! Made by tools/asn1 from request.asn1.
 
@@ -15,7 +15,7 @@ use der_pkix::certificate::Extensions;
 /// A number outside 0..255 is refused: the names alone say how wide the type is.
 pub type CertificationRequestInfoVersion = u8;
 
-/// What is read as `CertificationRequestInfoVersion` is what the page of the grammar says.
+/// What is read as `CertificationRequestInfoVersion` is what the grammar page says.
 pub fn grammar_of_certification_request_info_version()
     ensures { ⟦<CertificationRequestInfoVersion as Form>⟧.parse ≡ parse_of certification_request_info_version }
 {}
@@ -28,7 +28,7 @@ pub const CERTIFICATION_REQUEST_INFO_VERSION_V1: u8 = 0;
 /// ```
 pub type ExtensionRequest<'a> = Extensions<'a>;
 
-/// What is read as `ExtensionRequest` is what the page of the grammar says.
+/// What is read as `ExtensionRequest` is what the grammar page says.
 pub fn grammar_of_extension_request<'a>()
     ensures { ⟦<ExtensionRequest<'a> as Form>⟧.parse ≡ parse_of extension_request }
 {}
@@ -38,7 +38,7 @@ pub fn grammar_of_extension_request<'a>()
 /// ```
 pub type ChallengePassword<'a> = AnyRef<'a>;
 
-/// What is read as `ChallengePassword` is what the page of the grammar says.
+/// What is read as `ChallengePassword` is what the grammar page says.
 pub fn grammar_of_challenge_password<'a>()
     ensures { ⟦<ChallengePassword<'a> as Form>⟧.parse ≡ parse_of challenge_password }
 {}

@@ -162,7 +162,7 @@ impl<'a> ContentsEq for CertificationRequest<'a> {
 
 impl<'a> CopyIsDuplicate for CertificationRequest<'a> {}
 
-/// What is read as `CertificationRequest` is what the page of the grammar says.
+/// What is read as `CertificationRequest` is what the grammar page says.
 pub fn grammar_of_certification_request<'a>()
     ensures { ⟦<CertificationRequest<'a> as Form>⟧.parse ≡ parse_of certification_request }
 {}

@@ -180,7 +180,7 @@ impl<'a> ContentsEq for CertificationRequestInfo<'a> {
 
 impl<'a> CopyIsDuplicate for CertificationRequestInfo<'a> {}
 
-/// What is read as `CertificationRequestInfo` is what the page of the grammar says.
+/// What is read as `CertificationRequestInfo` is what the grammar page says.
 pub fn grammar_of_certification_request_info<'a>()
     ensures { ⟦<CertificationRequestInfo<'a> as Form>⟧.parse ≡ parse_of certification_request_info }
 {}

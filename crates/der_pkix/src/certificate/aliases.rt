@@ -1,4 +1,4 @@
-//! Second names of types in PkixCertificates.
+//! Type aliases of PkixCertificates.
 //!
 //! Made by tools/asn1 from certificate.asn1.
 
@@ -17,7 +17,7 @@ use der_numbers::IntRef;
 /// A number outside 0..255 is refused: the names alone say how wide the type is.
 pub type Version = u8;
 
-/// What is read as `Version` is what the page of the grammar says.
+/// What is read as `Version` is what the grammar page says.
 pub fn grammar_of_version()
     ensures { ⟦<Version as Form>⟧.parse ≡ parse_of version }
 {}
@@ -36,7 +36,7 @@ pub const VERSION_V3: u8 = 2;
 /// ```
 pub type CertificateSerialNumber<'a> = IntRef<'a>;
 
-/// What is read as `CertificateSerialNumber` is what the page of the grammar says.
+/// What is read as `CertificateSerialNumber` is what the grammar page says.
 pub fn grammar_of_certificate_serial_number<'a>()
     ensures { ⟦<CertificateSerialNumber<'a> as Form>⟧.parse ≡ parse_of certificate_serial_number }
 {}
@@ -46,14 +46,14 @@ pub fn grammar_of_certificate_serial_number<'a>()
 /// ```
 pub type UniqueIdentifier<'a> = BitStringRef<'a>;
 
-/// What is read as `UniqueIdentifier` is what the page of the grammar says.
+/// What is read as `UniqueIdentifier` is what the grammar page says.
 pub fn grammar_of_unique_identifier<'a>()
     ensures { ⟦<UniqueIdentifier<'a> as Form>⟧.parse ≡ parse_of unique_identifier }
 {}
 
 pub use crate::AlgorithmIdentifier;
 
-/// What is read as `AlgorithmIdentifier` is what the page of the grammar says.
+/// What is read as `AlgorithmIdentifier` is what the grammar page says.
 pub fn grammar_of_algorithm_identifier<'a>()
     ensures { ⟦<AlgorithmIdentifier<'a> as Form>⟧.parse ≡ parse_of algorithm_identifier }
 {}

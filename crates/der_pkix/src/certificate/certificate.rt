@@ -159,7 +159,7 @@ impl<'a> ContentsEq for Certificate<'a> {
 
 impl<'a> CopyIsDuplicate for Certificate<'a> {}
 
-/// What is read as `Certificate` is what the page of the grammar says.
+/// What is read as `Certificate` is what the grammar page says.
 pub fn grammar_of_certificate<'a>()
     ensures { ⟦<Certificate<'a> as Form>⟧.parse ≡ parse_of certificate }
 {}

@@ -159,7 +159,7 @@ impl<'a> ContentsEq for Extension<'a> {
 
 impl<'a> CopyIsDuplicate for Extension<'a> {}
 
-/// What is read as `Extension` is what the page of the grammar says.
+/// What is read as `Extension` is what the grammar page says.
 pub fn grammar_of_extension<'a>()
     ensures { ⟦<Extension<'a> as Form>⟧.parse ≡ parse_of extension }
 {}

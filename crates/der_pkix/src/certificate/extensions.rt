@@ -107,7 +107,7 @@ impl<'a> ContentsEq for Extensions<'a> {
 
 impl<'a> CopyIsDuplicate for Extensions<'a> {}
 
-/// What is read as `Extensions` is what the page of the grammar says.
+/// What is read as `Extensions` is what the grammar page says.
 pub fn grammar_of_extensions<'a>()
     ensures { ⟦<Extensions<'a> as Form>⟧.parse ≡ parse_of extensions }
 {}

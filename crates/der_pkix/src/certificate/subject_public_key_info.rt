@@ -142,7 +142,7 @@ impl<'a> ContentsEq for SubjectPublicKeyInfo<'a> {
 
 impl<'a> CopyIsDuplicate for SubjectPublicKeyInfo<'a> {}
 
-/// What is read as `SubjectPublicKeyInfo` is what the page of the grammar says.
+/// What is read as `SubjectPublicKeyInfo` is what the grammar page says.
 pub fn grammar_of_subject_public_key_info<'a>()
     ensures { ⟦<SubjectPublicKeyInfo<'a> as Form>⟧.parse ≡ parse_of subject_public_key_info }
 {}

@@ -267,7 +267,7 @@ impl<'a> ContentsEq for TbsCertificate<'a> {
 
 impl<'a> CopyIsDuplicate for TbsCertificate<'a> {}
 
-/// What is read as `TBSCertificate` is what the page of the grammar says.
+/// What is read as `TBSCertificate` is what the grammar page says.
 pub fn grammar_of_tbs_certificate<'a>()
     ensures { ⟦<TbsCertificate<'a> as Form>⟧.parse ≡ parse_of tbs_certificate }
 {}

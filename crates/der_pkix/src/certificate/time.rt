@@ -228,7 +228,7 @@ impl DuplicateIsEqual for Time {
     ghost copy_is_equal = { ⟦<Time as CopyLaws>⟧.copies.laws.equal_are };
 }
 
-/// What is read as `Time` is what the page of the grammar says.
+/// What is read as `Time` is what the grammar page says.
 pub fn grammar_of_time()
     ensures { ⟦<Time as Form>⟧.parse ≡ parse_of time }
 {}

@@ -134,7 +134,7 @@ impl ContentsEq for Validity {
 
 impl CopyIsDuplicate for Validity {}
 
-/// What is read as `Validity` is what the page of the grammar says.
+/// What is read as `Validity` is what the grammar page says.
 pub fn grammar_of_validity()
     ensures { ⟦<Validity as Form>⟧.parse ≡ parse_of validity }
 {}

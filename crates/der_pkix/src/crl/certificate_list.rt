@@ -159,7 +159,7 @@ impl<'a> ContentsEq for CertificateList<'a> {
 
 impl<'a> CopyIsDuplicate for CertificateList<'a> {}
 
-/// What is read as `CertificateList` is what the page of the grammar says.
+/// What is read as `CertificateList` is what the grammar page says.
 pub fn grammar_of_certificate_list<'a>()
     ensures { ⟦<CertificateList<'a> as Form>⟧.parse ≡ parse_of certificate_list }
 {}

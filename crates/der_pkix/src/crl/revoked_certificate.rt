@@ -153,7 +153,7 @@ impl<'a> ContentsEq for RevokedCertificate<'a> {
 
 impl<'a> CopyIsDuplicate for RevokedCertificate<'a> {}
 
-/// What is read as `RevokedCertificate` is what the page of the grammar says.
+/// What is read as `RevokedCertificate` is what the grammar page says.
 pub fn grammar_of_revoked_certificate<'a>()
     ensures { ⟦<RevokedCertificate<'a> as Form>⟧.parse ≡ parse_of revoked_certificate }
 {}

@@ -229,7 +229,7 @@ impl<'a> ContentsEq for TbsCertList<'a> {
 
 impl<'a> CopyIsDuplicate for TbsCertList<'a> {}
 
-/// What is read as `TBSCertList` is what the page of the grammar says.
+/// What is read as `TBSCertList` is what the grammar page says.
 pub fn grammar_of_tbs_cert_list<'a>()
     ensures { ⟦<TbsCertList<'a> as Form>⟧.parse ≡ parse_of tbs_cert_list }
 {}

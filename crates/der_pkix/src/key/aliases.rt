@@ -1,4 +1,4 @@
-//! Second names of types in PkixKeys.
+//! Type aliases of PkixKeys.
 //!
 //! Made by tools/asn1 from key.asn1.
 
@@ -14,7 +14,7 @@ use der_elem::Form;
 /// A number outside 0..255 is refused: the names alone say how wide the type is.
 pub type OneAsymmetricKeyVersion = u8;
 
-/// What is read as `OneAsymmetricKeyVersion` is what the page of the grammar says.
+/// What is read as `OneAsymmetricKeyVersion` is what the grammar page says.
 pub fn grammar_of_one_asymmetric_key_version()
     ensures { ⟦<OneAsymmetricKeyVersion as Form>⟧.parse ≡ parse_of one_asymmetric_key_version }
 {}
@@ -30,7 +30,7 @@ pub const ONE_ASYMMETRIC_KEY_VERSION_V2: u8 = 1;
 /// ```
 pub type PrivateKeyInfo<'a> = OneAsymmetricKey<'a>;
 
-/// What is read as `PrivateKeyInfo` is what the page of the grammar says.
+/// What is read as `PrivateKeyInfo` is what the grammar page says.
 pub fn grammar_of_private_key_info<'a>()
     ensures { ⟦<PrivateKeyInfo<'a> as Form>⟧.parse ≡ parse_of private_key_info }
 {}
@@ -40,7 +40,7 @@ pub fn grammar_of_private_key_info<'a>()
 /// A number outside 0..255 is refused: the names alone say how wide the type is.
 pub type RsaPrivateKeyVersion = u8;
 
-/// What is read as `RsaPrivateKeyVersion` is what the page of the grammar says.
+/// What is read as `RsaPrivateKeyVersion` is what the grammar page says.
 pub fn grammar_of_rsa_private_key_version()
     ensures { ⟦<RsaPrivateKeyVersion as Form>⟧.parse ≡ parse_of rsa_private_key_version }
 {}
@@ -56,7 +56,7 @@ pub const RSA_PRIVATE_KEY_VERSION_MULTI: u8 = 1;
 /// A number outside 0..255 is refused: the names alone say how wide the type is.
 pub type EcPrivateKeyVersion = u8;
 
-/// What is read as `EcPrivateKeyVersion` is what the page of the grammar says.
+/// What is read as `EcPrivateKeyVersion` is what the grammar page says.
 pub fn grammar_of_ec_private_key_version()
     ensures { ⟦<EcPrivateKeyVersion as Form>⟧.parse ≡ parse_of ec_private_key_version }
 {}
@@ -69,7 +69,7 @@ pub const EC_PRIVATE_KEY_VERSION_EC_PRIVKEY_VER1: u8 = 1;
 /// A number outside 0..255 is refused: the names alone say how wide the type is.
 pub type SpecifiedEcDomainVersion = u8;
 
-/// What is read as `SpecifiedEcDomainVersion` is what the page of the grammar says.
+/// What is read as `SpecifiedEcDomainVersion` is what the grammar page says.
 pub fn grammar_of_specified_ec_domain_version()
     ensures { ⟦<SpecifiedEcDomainVersion as Form>⟧.parse ≡ parse_of specified_ec_domain_version }
 {}

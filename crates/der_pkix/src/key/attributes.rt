@@ -104,7 +104,7 @@ impl<'a> ContentsEq for Attributes<'a> {
 
 impl<'a> CopyIsDuplicate for Attributes<'a> {}
 
-/// What is read as `Attributes` is what the page of the grammar says.
+/// What is read as `Attributes` is what the grammar page says.
 pub fn grammar_of_attributes<'a>()
     ensures { ⟦<Attributes<'a> as Form>⟧.parse ≡ parse_of attributes }
 {}

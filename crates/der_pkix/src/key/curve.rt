@@ -151,7 +151,7 @@ impl<'a> ContentsEq for Curve<'a> {
 
 impl<'a> CopyIsDuplicate for Curve<'a> {}
 
-/// What is read as `Curve` is what the page of the grammar says.
+/// What is read as `Curve` is what the grammar page says.
 pub fn grammar_of_curve<'a>()
     ensures { ⟦<Curve<'a> as Form>⟧.parse ≡ parse_of curve }
 {}

@@ -245,7 +245,7 @@ impl<'a> DuplicateIsEqual for EcParameters<'a> {
     ghost copy_is_equal = { ⟦<EcParameters<'a> as CopyLaws>⟧.copies.laws.equal_are };
 }
 
-/// What is read as `ECParameters` is what the page of the grammar says.
+/// What is read as `ECParameters` is what the grammar page says.
 pub fn grammar_of_ec_parameters<'a>()
     ensures { ⟦<EcParameters<'a> as Form>⟧.parse ≡ parse_of ec_parameters }
 {}

@@ -179,7 +179,7 @@ impl<'a> ContentsEq for EcPrivateKey<'a> {
 
 impl<'a> CopyIsDuplicate for EcPrivateKey<'a> {}
 
-/// What is read as `ECPrivateKey` is what the page of the grammar says.
+/// What is read as `ECPrivateKey` is what the grammar page says.
 pub fn grammar_of_ec_private_key<'a>()
     ensures { ⟦<EcPrivateKey<'a> as Form>⟧.parse ≡ parse_of ec_private_key }
 {}

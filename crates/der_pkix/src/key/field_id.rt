@@ -134,7 +134,7 @@ impl<'a> ContentsEq for FieldId<'a> {
 
 impl<'a> CopyIsDuplicate for FieldId<'a> {}
 
-/// What is read as `FieldID` is what the page of the grammar says.
+/// What is read as `FieldID` is what the grammar page says.
 pub fn grammar_of_field_id<'a>()
     ensures { ⟦<FieldId<'a> as Form>⟧.parse ≡ parse_of field_id }
 {}

@@ -199,7 +199,7 @@ impl<'a> ContentsEq for OneAsymmetricKey<'a> {
 
 impl<'a> CopyIsDuplicate for OneAsymmetricKey<'a> {}
 
-/// What is read as `OneAsymmetricKey` is what the page of the grammar says.
+/// What is read as `OneAsymmetricKey` is what the grammar page says.
 pub fn grammar_of_one_asymmetric_key<'a>()
     ensures { ⟦<OneAsymmetricKey<'a> as Form>⟧.parse ≡ parse_of one_asymmetric_key }
 {}

@@ -153,7 +153,7 @@ impl<'a> ContentsEq for OtherPrimeInfo<'a> {
 
 impl<'a> CopyIsDuplicate for OtherPrimeInfo<'a> {}
 
-/// What is read as `OtherPrimeInfo` is what the page of the grammar says.
+/// What is read as `OtherPrimeInfo` is what the grammar page says.
 pub fn grammar_of_other_prime_info<'a>()
     ensures { ⟦<OtherPrimeInfo<'a> as Form>⟧.parse ≡ parse_of other_prime_info }
 {}

@@ -109,7 +109,7 @@ impl<'a> ContentsEq for OtherPrimeInfos<'a> {
 
 impl<'a> CopyIsDuplicate for OtherPrimeInfos<'a> {}
 
-/// What is read as `OtherPrimeInfos` is what the page of the grammar says.
+/// What is read as `OtherPrimeInfos` is what the grammar page says.
 pub fn grammar_of_other_prime_infos<'a>()
     ensures { ⟦<OtherPrimeInfos<'a> as Form>⟧.parse ≡ parse_of other_prime_infos }
 {}

@@ -259,7 +259,7 @@ impl<'a> ContentsEq for RsaPrivateKey<'a> {
 
 impl<'a> CopyIsDuplicate for RsaPrivateKey<'a> {}
 
-/// What is read as `RSAPrivateKey` is what the page of the grammar says.
+/// What is read as `RSAPrivateKey` is what the grammar page says.
 pub fn grammar_of_rsa_private_key<'a>()
     ensures { ⟦<RsaPrivateKey<'a> as Form>⟧.parse ≡ parse_of rsa_private_key }
 {}

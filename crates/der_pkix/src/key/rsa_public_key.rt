@@ -138,7 +138,7 @@ impl<'a> ContentsEq for RsaPublicKey<'a> {
 
 impl<'a> CopyIsDuplicate for RsaPublicKey<'a> {}
 
-/// What is read as `RSAPublicKey` is what the page of the grammar says.
+/// What is read as `RSAPublicKey` is what the grammar page says.
 pub fn grammar_of_rsa_public_key<'a>()
     ensures { ⟦<RsaPublicKey<'a> as Form>⟧.parse ≡ parse_of rsa_public_key }
 {}

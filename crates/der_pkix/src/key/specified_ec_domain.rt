@@ -223,7 +223,7 @@ impl<'a> ContentsEq for SpecifiedEcDomain<'a> {
 
 impl<'a> CopyIsDuplicate for SpecifiedEcDomain<'a> {}
 
-/// What is read as `SpecifiedECDomain` is what the page of the grammar says.
+/// What is read as `SpecifiedECDomain` is what the grammar page says.
 pub fn grammar_of_specified_ec_domain<'a>()
     ensures { ⟦<SpecifiedEcDomain<'a> as Form>⟧.parse ≡ parse_of specified_ec_domain }
 {}

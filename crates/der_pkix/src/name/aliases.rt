@@ -1,4 +1,4 @@
-//! Second names of types in PkixNames.
+//! Type aliases of PkixNames.
 //!
 //! Made by tools/asn1 from name.asn1.
 
@@ -15,7 +15,7 @@ use der_opaque::{AnyRef, ObjectIdentifierRef};
 /// ```
 pub type AttributeType<'a> = ObjectIdentifierRef<'a, 39>;
 
-/// What is read as `AttributeType` is what the page of the grammar says.
+/// What is read as `AttributeType` is what the grammar page says.
 pub fn grammar_of_attribute_type<'a>()
     ensures { ⟦<AttributeType<'a> as Form>⟧.parse ≡ parse_of attribute_type }
 {}
@@ -25,7 +25,7 @@ pub fn grammar_of_attribute_type<'a>()
 /// ```
 pub type AttributeValue<'a> = AnyRef<'a>;
 
-/// What is read as `AttributeValue` is what the page of the grammar says.
+/// What is read as `AttributeValue` is what the grammar page says.
 pub fn grammar_of_attribute_value<'a>()
     ensures { ⟦<AttributeValue<'a> as Form>⟧.parse ≡ parse_of attribute_value }
 {}
@@ -36,7 +36,7 @@ pub fn grammar_of_attribute_value<'a>()
 /// ```
 pub type Name<'a> = RdnSequence<'a>;
 
-/// What is read as `Name` is what the page of the grammar says.
+/// What is read as `Name` is what the grammar page says.
 pub fn grammar_of_name<'a>()
     ensures { ⟦<Name<'a> as Form>⟧.parse ≡ parse_of name }
 {}
@@ -46,7 +46,7 @@ pub fn grammar_of_name<'a>()
 /// ```
 pub type DistinguishedName<'a> = RdnSequence<'a>;
 
-/// What is read as `DistinguishedName` is what the page of the grammar says.
+/// What is read as `DistinguishedName` is what the grammar page says.
 pub fn grammar_of_distinguished_name<'a>()
     ensures { ⟦<DistinguishedName<'a> as Form>⟧.parse ≡ parse_of distinguished_name }
 {}

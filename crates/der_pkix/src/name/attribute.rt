@@ -143,7 +143,7 @@ impl<'a> ContentsEq for Attribute<'a> {
 
 impl<'a> CopyIsDuplicate for Attribute<'a> {}
 
-/// What is read as `Attribute` is what the page of the grammar says.
+/// What is read as `Attribute` is what the grammar page says.
 pub fn grammar_of_attribute<'a>()
     ensures { ⟦<Attribute<'a> as Form>⟧.parse ≡ parse_of attribute }
 {}

@@ -138,7 +138,7 @@ impl<'a> ContentsEq for AttributeTypeAndValue<'a> {
 
 impl<'a> CopyIsDuplicate for AttributeTypeAndValue<'a> {}
 
-/// What is read as `AttributeTypeAndValue` is what the page of the grammar says.
+/// What is read as `AttributeTypeAndValue` is what the grammar page says.
 pub fn grammar_of_attribute_type_and_value<'a>()
     ensures { ⟦<AttributeTypeAndValue<'a> as Form>⟧.parse ≡ parse_of attribute_type_and_value }
 {}

@@ -108,7 +108,7 @@ impl<'a> ContentsEq for RdnSequence<'a> {
 
 impl<'a> CopyIsDuplicate for RdnSequence<'a> {}
 
-/// What is read as `RDNSequence` is what the page of the grammar says.
+/// What is read as `RDNSequence` is what the grammar page says.
 pub fn grammar_of_rdn_sequence<'a>()
     ensures { ⟦<RdnSequence<'a> as Form>⟧.parse ≡ parse_of rdn_sequence }
 {}

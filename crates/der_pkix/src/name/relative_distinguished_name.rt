@@ -110,7 +110,7 @@ impl<'a> ContentsEq for RelativeDistinguishedName<'a> {
 
 impl<'a> CopyIsDuplicate for RelativeDistinguishedName<'a> {}
 
-/// What is read as `RelativeDistinguishedName` is what the page of the grammar says.
+/// What is read as `RelativeDistinguishedName` is what the grammar page says.
 pub fn grammar_of_relative_distinguished_name<'a>()
     ensures { ⟦<RelativeDistinguishedName<'a> as Form>⟧.parse ≡ parse_of relative_distinguished_name }
 {}

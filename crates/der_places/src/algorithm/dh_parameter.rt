@@ -18,7 +18,7 @@ use der_elem::Form;
 use der_numbers::UintRef;
 use der_pkcs::algorithm::DhParameter;
 
-/// Where the fields of a `DHParameter` stand.
+/// Byte ranges of the fields of a `DHParameter`.
 #[repr(C)]
 #[derive(Clone, Copy, Debug, PartialEq, Eq)]
 pub struct DhParameterPlaces {
@@ -26,7 +26,7 @@ pub struct DhParameterPlaces {
     pub prime: Place,
     /// `base`, `INTEGER (0..MAX)`.
     pub base: Place,
-    /// `privateValueLength`, `INTEGER (0..MAX) OPTIONAL`; no octets where it is absent.
+    /// `privateValueLength`, `INTEGER (0..MAX) OPTIONAL`; empty if it is absent.
     pub private_value_length: Place,
 }
 

@@ -18,7 +18,7 @@ use der_elem::Form;
 use der_numbers::UintRef;
 use der_pkcs::algorithm::{DomainParameters, ValidationParms};
 
-/// Where the fields of a `DomainParameters` stand.
+/// Byte ranges of the fields of a `DomainParameters`.
 #[repr(C)]
 #[derive(Clone, Copy, Debug, PartialEq, Eq)]
 pub struct DomainParametersPlaces {
@@ -28,9 +28,9 @@ pub struct DomainParametersPlaces {
     pub g: Place,
     /// `q`, `INTEGER (0..MAX)`.
     pub q: Place,
-    /// `j`, `INTEGER (0..MAX) OPTIONAL`; no octets where it is absent.
+    /// `j`, `INTEGER (0..MAX) OPTIONAL`; empty if it is absent.
     pub j: Place,
-    /// `validationParms`, `ValidationParms OPTIONAL`; no octets where it is absent.
+    /// `validationParms`, `ValidationParms OPTIONAL`; empty if it is absent.
     pub validation_parms: Place,
 }
 

@@ -17,7 +17,7 @@ use der_elem::Form;
 use der_numbers::UintRef;
 use der_pkcs::algorithm::DssParms;
 
-/// Where the fields of a `Dss-Parms` stand.
+/// Byte ranges of the fields of a `Dss-Parms`.
 #[repr(C)]
 #[derive(Clone, Copy, Debug, PartialEq, Eq)]
 pub struct DssParmsPlaces {

@@ -17,7 +17,7 @@ use der_elem::Form;
 use der_numbers::UintRef;
 use der_pkcs::algorithm::EcdsaSigValue;
 
-/// Where the fields of an `ECDSA-Sig-Value` stand.
+/// Byte ranges of the fields of an `ECDSA-Sig-Value`.
 #[repr(C)]
 #[derive(Clone, Copy, Debug, PartialEq, Eq)]
 pub struct EcdsaSigValuePlaces {

@@ -19,15 +19,15 @@ use der_fields::Explicit;
 use der_pkcs::algorithm::RsaesOaepParams;
 use der_pkix::AlgorithmIdentifier;
 
-/// Where the fields of a `RSAES-OAEP-params` stand.
+/// Byte ranges of the fields of a `RSAES-OAEP-params`.
 #[repr(C)]
 #[derive(Clone, Copy, Debug, PartialEq, Eq)]
 pub struct RsaesOaepParamsPlaces {
-    /// `hashFunc`, `[0] AlgorithmIdentifier OPTIONAL`; no octets where it is absent.
+    /// `hashFunc`, `[0] AlgorithmIdentifier OPTIONAL`; empty if it is absent.
     pub hash_func: Place,
-    /// `maskGenFunc`, `[1] AlgorithmIdentifier OPTIONAL`; no octets where it is absent.
+    /// `maskGenFunc`, `[1] AlgorithmIdentifier OPTIONAL`; empty if it is absent.
     pub mask_gen_func: Place,
-    /// `pSourceFunc`, `[2] AlgorithmIdentifier OPTIONAL`; no octets where it is absent.
+    /// `pSourceFunc`, `[2] AlgorithmIdentifier OPTIONAL`; empty if it is absent.
     pub p_source_func: Place,
 }
 

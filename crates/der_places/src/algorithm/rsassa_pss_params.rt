@@ -21,17 +21,17 @@ use der_modules::tagged;
 use der_pkcs::algorithm::RsassaPssParams;
 use der_pkix::AlgorithmIdentifier;
 
-/// Where the fields of a `RSASSA-PSS-params` stand.
+/// Byte ranges of the fields of a `RSASSA-PSS-params`.
 #[repr(C)]
 #[derive(Clone, Copy, Debug, PartialEq, Eq)]
 pub struct RsassaPssParamsPlaces {
-    /// `hashAlgorithm`, `[0] AlgorithmIdentifier OPTIONAL`; no octets where it is absent.
+    /// `hashAlgorithm`, `[0] AlgorithmIdentifier OPTIONAL`; empty if it is absent.
     pub hash_algorithm: Place,
-    /// `maskGenAlgorithm`, `[1] AlgorithmIdentifier OPTIONAL`; no octets where it is absent.
+    /// `maskGenAlgorithm`, `[1] AlgorithmIdentifier OPTIONAL`; empty if it is absent.
     pub mask_gen_algorithm: Place,
-    /// `saltLength`, `[2] INTEGER OPTIONAL`; no octets where it is absent.
+    /// `saltLength`, `[2] INTEGER OPTIONAL`; empty if it is absent.
     pub salt_length: Place,
-    /// `trailerField`, `[3] INTEGER DEFAULT 1`; no octets where it is the default.
+    /// `trailerField`, `[3] INTEGER DEFAULT 1`; empty if it has its default.
     pub trailer_field: Place,
 }
 

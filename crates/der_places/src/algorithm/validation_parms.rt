@@ -18,7 +18,7 @@ use der_elem::Form;
 use der_numbers::UintRef;
 use der_pkcs::algorithm::ValidationParms;
 
-/// Where the fields of a `ValidationParms` stand.
+/// Byte ranges of the fields of a `ValidationParms`.
 #[repr(C)]
 #[derive(Clone, Copy, Debug, PartialEq, Eq)]
 pub struct ValidationParmsPlaces {

@@ -23,27 +23,27 @@ use der_fields::Implicit;
 use der_opaque::OctetStringRef;
 use der_pkix::AlgorithmIdentifier;
 
-/// Where the fields of an `AuthenticatedData` stand.
+/// Byte ranges of the fields of an `AuthenticatedData`.
 #[repr(C)]
 #[derive(Clone, Copy, Debug, PartialEq, Eq)]
 pub struct AuthenticatedDataPlaces {
     /// `version`, `CMSVersion`.
     pub version: Place,
-    /// `originatorInfo`, `[0] IMPLICIT OriginatorInfo OPTIONAL`; no octets where it is absent.
+    /// `originatorInfo`, `[0] IMPLICIT OriginatorInfo OPTIONAL`; empty if it is absent.
     pub originator_info: Place,
     /// `recipientInfos`, `RecipientInfos`.
     pub recipient_infos: Place,
     /// `macAlgorithm`, `AlgorithmIdentifier`.
     pub mac_algorithm: Place,
-    /// `digestAlgorithm`, `[1] AlgorithmIdentifier OPTIONAL`; no octets where it is absent.
+    /// `digestAlgorithm`, `[1] AlgorithmIdentifier OPTIONAL`; empty if it is absent.
     pub digest_algorithm: Place,
     /// `encapContentInfo`, `EncapsulatedContentInfo`.
     pub encap_content_info: Place,
-    /// `authAttrs`, `[2] IMPLICIT AuthAttributes OPTIONAL`; no octets where it is absent.
+    /// `authAttrs`, `[2] IMPLICIT AuthAttributes OPTIONAL`; empty if it is absent.
     pub auth_attrs: Place,
     /// `mac`, `OCTET STRING`.
     pub mac: Place,
-    /// `unauthAttrs`, `[3] IMPLICIT UnauthAttributes OPTIONAL`; no octets where it is absent.
+    /// `unauthAttrs`, `[3] IMPLICIT UnauthAttributes OPTIONAL`; empty if it is absent.
     pub unauth_attrs: Place,
 }
 

@@ -18,7 +18,7 @@ use der_elem::Form;
 use der_pkix::AlgorithmIdentifier;
 use der_pkix::certificate::{Certificate, TbsCertificate};
 
-/// Where the fields of a `Certificate` stand.
+/// Byte ranges of the fields of a `Certificate`.
 #[repr(C)]
 #[derive(Clone, Copy, Debug, PartialEq, Eq)]
 pub struct CertificatePlaces {

@@ -19,13 +19,13 @@ use der_fields::{DefaultFalse, DefaultOf};
 use der_opaque::{ObjectIdentifierRef, OctetStringRef};
 use der_pkix::certificate::Extension;
 
-/// Where the fields of an `Extension` stand.
+/// Byte ranges of the fields of an `Extension`.
 #[repr(C)]
 #[derive(Clone, Copy, Debug, PartialEq, Eq)]
 pub struct ExtensionPlaces {
     /// `extnID`, `OBJECT IDENTIFIER`.
     pub extn_id: Place,
-    /// `critical`, `BOOLEAN DEFAULT FALSE`; no octets where it is the default.
+    /// `critical`, `BOOLEAN DEFAULT FALSE`; empty if it has its default.
     pub critical: Place,
     /// `extnValue`, `OCTET STRING`.
     pub extn_value: Place,

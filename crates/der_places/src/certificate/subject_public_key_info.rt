@@ -18,7 +18,7 @@ use der_elem::Form;
 use der_pkix::AlgorithmIdentifier;
 use der_pkix::certificate::SubjectPublicKeyInfo;
 
-/// Where the fields of a `SubjectPublicKeyInfo` stand.
+/// Byte ranges of the fields of a `SubjectPublicKeyInfo`.
 #[repr(C)]
 #[derive(Clone, Copy, Debug, PartialEq, Eq)]
 pub struct SubjectPublicKeyInfoPlaces {

@@ -26,11 +26,11 @@ use der_pkix::certificate::{
 };
 use der_pkix::name::Name;
 
-/// Where the fields of a `TBSCertificate` stand.
+/// Byte ranges of the fields of a `TBSCertificate`.
 #[repr(C)]
 #[derive(Clone, Copy, Debug, PartialEq, Eq)]
 pub struct TbsCertificatePlaces {
-    /// `version`, `[0] Version DEFAULT v1`; no octets where it is the default.
+    /// `version`, `[0] Version DEFAULT v1`; empty if it has its default.
     pub version: Place,
     /// `serialNumber`, `CertificateSerialNumber`.
     pub serial_number: Place,
@@ -44,11 +44,11 @@ pub struct TbsCertificatePlaces {
     pub subject: Place,
     /// `subjectPublicKeyInfo`, `SubjectPublicKeyInfo`.
     pub subject_public_key_info: Place,
-    /// `issuerUniqueID`, `[1] IMPLICIT UniqueIdentifier OPTIONAL`; no octets where it is absent.
+    /// `issuerUniqueID`, `[1] IMPLICIT UniqueIdentifier OPTIONAL`; empty if it is absent.
     pub issuer_unique_id: Place,
-    /// `subjectUniqueID`, `[2] IMPLICIT UniqueIdentifier OPTIONAL`; no octets where it is absent.
+    /// `subjectUniqueID`, `[2] IMPLICIT UniqueIdentifier OPTIONAL`; empty if it is absent.
     pub subject_unique_id: Place,
-    /// `extensions`, `[3] Extensions OPTIONAL`; no octets where it is absent.
+    /// `extensions`, `[3] Extensions OPTIONAL`; empty if it is absent.
     pub extensions: Place,
 }
 

@@ -19,7 +19,7 @@ use crate::walk::next_place;
 use der_elem::Form;
 use der_pkix::certificate::{Time, Validity};
 
-/// Where the fields of a `Validity` stand.
+/// Byte ranges of the fields of a `Validity`.
 #[repr(C)]
 #[derive(Clone, Copy, Debug, PartialEq, Eq)]
 pub struct ValidityPlaces {

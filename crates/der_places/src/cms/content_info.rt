@@ -19,7 +19,7 @@ use der_elem::Form;
 use der_fields::Explicit;
 use der_opaque::AnyRef;
 
-/// Where the fields of a `ContentInfo` stand.
+/// Byte ranges of the fields of a `ContentInfo`.
 #[repr(C)]
 #[derive(Clone, Copy, Debug, PartialEq, Eq)]
 pub struct ContentInfoPlaces {

@@ -18,7 +18,7 @@ use der_elem::Form;
 use der_opaque::OctetStringRef;
 use der_pkix::AlgorithmIdentifier;
 
-/// Where the fields of a `DigestedData` stand.
+/// Byte ranges of the fields of a `DigestedData`.
 #[repr(C)]
 #[derive(Clone, Copy, Debug, PartialEq, Eq)]
 pub struct DigestedDataPlaces {

@@ -20,13 +20,13 @@ use der_elem::Form;
 use der_fields::Explicit;
 use der_opaque::OctetStringRef;
 
-/// Where the fields of an `EncapsulatedContentInfo` stand.
+/// Byte ranges of the fields of an `EncapsulatedContentInfo`.
 #[repr(C)]
 #[derive(Clone, Copy, Debug, PartialEq, Eq)]
 pub struct EncapsulatedContentInfoPlaces {
     /// `eContentType`, `ContentType`.
     pub e_content_type: Place,
-    /// `eContent`, `[0] EXPLICIT OCTET STRING OPTIONAL`; no octets where it is absent.
+    /// `eContent`, `[0] EXPLICIT OCTET STRING OPTIONAL`; empty if it is absent.
     pub e_content: Place,
 }
 

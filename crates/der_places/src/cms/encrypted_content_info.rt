@@ -21,7 +21,7 @@ use der_fields::Implicit;
 use der_opaque::OctetStringRef;
 use der_pkix::AlgorithmIdentifier;
 
-/// Where the fields of an `EncryptedContentInfo` stand.
+/// Byte ranges of the fields of an `EncryptedContentInfo`.
 #[repr(C)]
 #[derive(Clone, Copy, Debug, PartialEq, Eq)]
 pub struct EncryptedContentInfoPlaces {
@@ -29,7 +29,7 @@ pub struct EncryptedContentInfoPlaces {
     pub content_type: Place,
     /// `contentEncryptionAlgorithm`, `AlgorithmIdentifier`.
     pub content_encryption_algorithm: Place,
-    /// `encryptedContent`, `[0] IMPLICIT OCTET STRING OPTIONAL`; no octets where it is absent.
+    /// `encryptedContent`, `[0] IMPLICIT OCTET STRING OPTIONAL`; empty if it is absent.
     pub encrypted_content: Place,
 }
 

@@ -19,7 +19,7 @@ use der_cms::cms::{CmsVersion, EncryptedContentInfo, EncryptedData, UnprotectedA
 use der_elem::Form;
 use der_fields::Implicit;
 
-/// Where the fields of an `EncryptedData` stand.
+/// Byte ranges of the fields of an `EncryptedData`.
 #[repr(C)]
 #[derive(Clone, Copy, Debug, PartialEq, Eq)]
 pub struct EncryptedDataPlaces {
@@ -27,8 +27,7 @@ pub struct EncryptedDataPlaces {
     pub version: Place,
     /// `encryptedContentInfo`, `EncryptedContentInfo`.
     pub encrypted_content_info: Place,
-    /// `unprotectedAttrs`, `[1] IMPLICIT UnprotectedAttributes OPTIONAL`; no octets where it is
-    /// absent.
+    /// `unprotectedAttrs`, `[1] IMPLICIT UnprotectedAttributes OPTIONAL`; empty if it is absent.
     pub unprotected_attrs: Place,
 }
 

@@ -18,7 +18,7 @@ use der_elem::Form;
 use der_pkix::certificate::CertificateSerialNumber;
 use der_pkix::name::Name;
 
-/// Where the fields of an `IssuerAndSerialNumber` stand.
+/// Byte ranges of the fields of an `IssuerAndSerialNumber`.
 #[repr(C)]
 #[derive(Clone, Copy, Debug, PartialEq, Eq)]
 pub struct IssuerAndSerialNumberPlaces {

@@ -24,7 +24,7 @@ use der_fields::Implicit;
 use der_lists::UnorderedSetRef;
 use der_pkix::AlgorithmIdentifier;
 
-/// Where the fields of a `SignedData` stand.
+/// Byte ranges of the fields of a `SignedData`.
 #[repr(C)]
 #[derive(Clone, Copy, Debug, PartialEq, Eq)]
 pub struct SignedDataPlaces {
@@ -34,9 +34,9 @@ pub struct SignedDataPlaces {
     pub digest_algorithms: Place,
     /// `encapContentInfo`, `EncapsulatedContentInfo`.
     pub encap_content_info: Place,
-    /// `certificates`, `[0] IMPLICIT CertificateSet OPTIONAL`; no octets where it is absent.
+    /// `certificates`, `[0] IMPLICIT CertificateSet OPTIONAL`; empty if it is absent.
     pub certificates: Place,
-    /// `crls`, `[1] IMPLICIT RevocationInfoChoices OPTIONAL`; no octets where it is absent.
+    /// `crls`, `[1] IMPLICIT RevocationInfoChoices OPTIONAL`; empty if it is absent.
     pub crls: Place,
     /// `signerInfos`, `SET OF SignerInfo`.
     pub signer_infos: Place,

@@ -26,7 +26,7 @@ use der_fields::Implicit;
 use der_opaque::OctetStringRef;
 use der_pkix::AlgorithmIdentifier;
 
-/// Where the fields of a `SignerInfo` stand.
+/// Byte ranges of the fields of a `SignerInfo`.
 #[repr(C)]
 #[derive(Clone, Copy, Debug, PartialEq, Eq)]
 pub struct SignerInfoPlaces {
@@ -36,13 +36,13 @@ pub struct SignerInfoPlaces {
     pub sid: Place,
     /// `digestAlgorithm`, `AlgorithmIdentifier`.
     pub digest_algorithm: Place,
-    /// `signedAttrs`, `[0] IMPLICIT SignedAttributes OPTIONAL`; no octets where it is absent.
+    /// `signedAttrs`, `[0] IMPLICIT SignedAttributes OPTIONAL`; empty if it is absent.
     pub signed_attrs: Place,
     /// `signatureAlgorithm`, `AlgorithmIdentifier`.
     pub signature_algorithm: Place,
     /// `signature`, `OCTET STRING`.
     pub signature: Place,
-    /// `unsignedAttrs`, `[1] IMPLICIT UnsignedAttributes OPTIONAL`; no octets where it is absent.
+    /// `unsignedAttrs`, `[1] IMPLICIT UnsignedAttributes OPTIONAL`; empty if it is absent.
     pub unsigned_attrs: Place,
 }
 

@@ -18,7 +18,7 @@ use der_elem::Form;
 use der_pkix::AlgorithmIdentifier;
 use der_pkix::crl::{CertificateList, TbsCertList};
 
-/// Where the fields of a `CertificateList` stand.
+/// Byte ranges of the fields of a `CertificateList`.
 #[repr(C)]
 #[derive(Clone, Copy, Debug, PartialEq, Eq)]
 pub struct CertificateListPlaces {

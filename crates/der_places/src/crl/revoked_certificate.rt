@@ -21,7 +21,7 @@ use der_elem::Form;
 use der_pkix::certificate::{CertificateSerialNumber, Extensions, Time};
 use der_pkix::crl::RevokedCertificate;
 
-/// Where the fields of a `RevokedCertificate` stand.
+/// Byte ranges of the fields of a `RevokedCertificate`.
 #[repr(C)]
 #[derive(Clone, Copy, Debug, PartialEq, Eq)]
 pub struct RevokedCertificatePlaces {
@@ -29,7 +29,7 @@ pub struct RevokedCertificatePlaces {
     pub user_certificate: Place,
     /// `revocationDate`, `Time`.
     pub revocation_date: Place,
-    /// `crlEntryExtensions`, `Extensions OPTIONAL`; no octets where it is absent.
+    /// `crlEntryExtensions`, `Extensions OPTIONAL`; empty if it is absent.
     pub crl_entry_extensions: Place,
 }
 

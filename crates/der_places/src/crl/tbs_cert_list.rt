@@ -26,11 +26,11 @@ use der_pkix::certificate::{Extensions, Time, Version};
 use der_pkix::crl::{RevokedCertificate, TbsCertList};
 use der_pkix::name::Name;
 
-/// Where the fields of a `TBSCertList` stand.
+/// Byte ranges of the fields of a `TBSCertList`.
 #[repr(C)]
 #[derive(Clone, Copy, Debug, PartialEq, Eq)]
 pub struct TbsCertListPlaces {
-    /// `version`, `Version OPTIONAL`; no octets where it is absent.
+    /// `version`, `Version OPTIONAL`; empty if it is absent.
     pub version: Place,
     /// `signature`, `AlgorithmIdentifier`.
     pub signature: Place,
@@ -38,13 +38,13 @@ pub struct TbsCertListPlaces {
     pub issuer: Place,
     /// `thisUpdate`, `Time`.
     pub this_update: Place,
-    /// `nextUpdate`, `Time OPTIONAL`; no octets where it is absent.
+    /// `nextUpdate`, `Time OPTIONAL`; empty if it is absent.
     pub next_update: Place,
     /// `revokedCertificates`, `SEQUENCE OF SEQUENCE { userCertificate CertificateSerialNumber,
-    /// revocationDate Time, crlEntryExtensions Extensions OPTIONAL } OPTIONAL`; no octets where it
-    /// is absent.
+    /// revocationDate Time, crlEntryExtensions Extensions OPTIONAL } OPTIONAL`; empty if it is
+    /// absent.
     pub revoked_certificates: Place,
-    /// `crlExtensions`, `[0] Extensions OPTIONAL`; no octets where it is absent.
+    /// `crlExtensions`, `[0] Extensions OPTIONAL`; empty if it is absent.
     pub crl_extensions: Place,
 }
 

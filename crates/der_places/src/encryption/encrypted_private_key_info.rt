@@ -18,7 +18,7 @@ use der_opaque::OctetStringRef;
 use der_pkcs::encryption::EncryptedPrivateKeyInfo;
 use der_pkix::AlgorithmIdentifier;
 
-/// Where the fields of an `EncryptedPrivateKeyInfo` stand.
+/// Byte ranges of the fields of an `EncryptedPrivateKeyInfo`.
 #[repr(C)]
 #[derive(Clone, Copy, Debug, PartialEq, Eq)]
 pub struct EncryptedPrivateKeyInfoPlaces {

@@ -17,7 +17,7 @@ use der_elem::Form;
 use der_opaque::OctetStringRef;
 use der_pkcs::encryption::PbeParameter;
 
-/// Where the fields of a `PBEParameter` stand.
+/// Byte ranges of the fields of a `PBEParameter`.
 #[repr(C)]
 #[derive(Clone, Copy, Debug, PartialEq, Eq)]
 pub struct PbeParameterPlaces {

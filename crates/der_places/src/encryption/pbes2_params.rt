@@ -17,7 +17,7 @@ use der_elem::Form;
 use der_pkcs::encryption::Pbes2Params;
 use der_pkix::AlgorithmIdentifier;
 
-/// Where the fields of a `PBES2-params` stand.
+/// Byte ranges of the fields of a `PBES2-params`.
 #[repr(C)]
 #[derive(Clone, Copy, Debug, PartialEq, Eq)]
 pub struct Pbes2ParamsPlaces {

@@ -21,7 +21,7 @@ use der_elem::Form;
 use der_pkcs::encryption::{Pbkdf2Params, Pbkdf2Salt};
 use der_pkix::AlgorithmIdentifier;
 
-/// Where the fields of a `PBKDF2-params` stand.
+/// Byte ranges of the fields of a `PBKDF2-params`.
 #[repr(C)]
 #[derive(Clone, Copy, Debug, PartialEq, Eq)]
 pub struct Pbkdf2ParamsPlaces {
@@ -29,9 +29,9 @@ pub struct Pbkdf2ParamsPlaces {
     pub salt: Place,
     /// `iterationCount`, `INTEGER (1..MAX)`.
     pub iteration_count: Place,
-    /// `keyLength`, `INTEGER (1..MAX) OPTIONAL`; no octets where it is absent.
+    /// `keyLength`, `INTEGER (1..MAX) OPTIONAL`; empty if it is absent.
     pub key_length: Place,
-    /// `prf`, `AlgorithmIdentifier OPTIONAL`; no octets where it is absent.
+    /// `prf`, `AlgorithmIdentifier OPTIONAL`; empty if it is absent.
     pub prf: Place,
 }
 

@@ -20,20 +20,19 @@ use der_elem::Form;
 use der_enveloped::enveloped::{EnvelopedData, OriginatorInfo, RecipientInfos};
 use der_fields::Implicit;
 
-/// Where the fields of an `EnvelopedData` stand.
+/// Byte ranges of the fields of an `EnvelopedData`.
 #[repr(C)]
 #[derive(Clone, Copy, Debug, PartialEq, Eq)]
 pub struct EnvelopedDataPlaces {
     /// `version`, `CMSVersion`.
     pub version: Place,
-    /// `originatorInfo`, `[0] IMPLICIT OriginatorInfo OPTIONAL`; no octets where it is absent.
+    /// `originatorInfo`, `[0] IMPLICIT OriginatorInfo OPTIONAL`; empty if it is absent.
     pub originator_info: Place,
     /// `recipientInfos`, `RecipientInfos`.
     pub recipient_infos: Place,
     /// `encryptedContentInfo`, `EncryptedContentInfo`.
     pub encrypted_content_info: Place,
-    /// `unprotectedAttrs`, `[1] IMPLICIT UnprotectedAttributes OPTIONAL`; no octets where it is
-    /// absent.
+    /// `unprotectedAttrs`, `[1] IMPLICIT UnprotectedAttributes OPTIONAL`; empty if it is absent.
     pub unprotected_attrs: Place,
 }
 

@@ -19,7 +19,7 @@ use der_enveloped::enveloped::{KekIdentifier, KekRecipientInfo};
 use der_opaque::OctetStringRef;
 use der_pkix::AlgorithmIdentifier;
 
-/// Where the fields of a `KEKRecipientInfo` stand.
+/// Byte ranges of the fields of a `KEKRecipientInfo`.
 #[repr(C)]
 #[derive(Clone, Copy, Debug, PartialEq, Eq)]
 pub struct KekRecipientInfoPlaces {

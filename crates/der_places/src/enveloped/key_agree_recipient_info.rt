@@ -23,7 +23,7 @@ use der_enveloped::enveloped::{
 use der_fields::Explicit;
 use der_pkix::AlgorithmIdentifier;
 
-/// Where the fields of a `KeyAgreeRecipientInfo` stand.
+/// Byte ranges of the fields of a `KeyAgreeRecipientInfo`.
 #[repr(C)]
 #[derive(Clone, Copy, Debug, PartialEq, Eq)]
 pub struct KeyAgreeRecipientInfoPlaces {
@@ -31,7 +31,7 @@ pub struct KeyAgreeRecipientInfoPlaces {
     pub version: Place,
     /// `originator`, `[0] EXPLICIT OriginatorIdentifierOrKey`.
     pub originator: Place,
-    /// `ukm`, `[1] EXPLICIT UserKeyingMaterial OPTIONAL`; no octets where it is absent.
+    /// `ukm`, `[1] EXPLICIT UserKeyingMaterial OPTIONAL`; empty if it is absent.
     pub ukm: Place,
     /// `keyEncryptionAlgorithm`, `AlgorithmIdentifier`.
     pub key_encryption_algorithm: Place,

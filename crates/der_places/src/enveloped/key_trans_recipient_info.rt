@@ -23,7 +23,7 @@ use der_enveloped::enveloped::{KeyTransRecipientInfo, RecipientIdentifier};
 use der_opaque::OctetStringRef;
 use der_pkix::AlgorithmIdentifier;
 
-/// Where the fields of a `KeyTransRecipientInfo` stand.
+/// Byte ranges of the fields of a `KeyTransRecipientInfo`.
 #[repr(C)]
 #[derive(Clone, Copy, Debug, PartialEq, Eq)]
 pub struct KeyTransRecipientInfoPlaces {

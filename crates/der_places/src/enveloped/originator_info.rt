@@ -19,13 +19,13 @@ use der_elem::Form;
 use der_enveloped::enveloped::OriginatorInfo;
 use der_fields::Implicit;
 
-/// Where the fields of an `OriginatorInfo` stand.
+/// Byte ranges of the fields of an `OriginatorInfo`.
 #[repr(C)]
 #[derive(Clone, Copy, Debug, PartialEq, Eq)]
 pub struct OriginatorInfoPlaces {
-    /// `certs`, `[0] IMPLICIT CertificateSet OPTIONAL`; no octets where it is absent.
+    /// `certs`, `[0] IMPLICIT CertificateSet OPTIONAL`; empty if it is absent.
     pub certs: Place,
-    /// `crls`, `[1] IMPLICIT RevocationInfoChoices OPTIONAL`; no octets where it is absent.
+    /// `crls`, `[1] IMPLICIT RevocationInfoChoices OPTIONAL`; empty if it is absent.
     pub crls: Place,
 }
 

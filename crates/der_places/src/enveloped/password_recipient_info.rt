@@ -22,13 +22,13 @@ use der_fields::Implicit;
 use der_opaque::OctetStringRef;
 use der_pkix::AlgorithmIdentifier;
 
-/// Where the fields of a `PasswordRecipientInfo` stand.
+/// Byte ranges of the fields of a `PasswordRecipientInfo`.
 #[repr(C)]
 #[derive(Clone, Copy, Debug, PartialEq, Eq)]
 pub struct PasswordRecipientInfoPlaces {
     /// `version`, `CMSVersion`.
     pub version: Place,
-    /// `keyDerivationAlgorithm`, `[0] AlgorithmIdentifier OPTIONAL`; no octets where it is absent.
+    /// `keyDerivationAlgorithm`, `[0] AlgorithmIdentifier OPTIONAL`; empty if it is absent.
     pub key_derivation_algorithm: Place,
     /// `keyEncryptionAlgorithm`, `AlgorithmIdentifier`.
     pub key_encryption_algorithm: Place,

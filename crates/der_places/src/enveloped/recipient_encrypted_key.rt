@@ -21,7 +21,7 @@ use der_elem::Form;
 use der_enveloped::enveloped::{KeyAgreeRecipientIdentifier, RecipientEncryptedKey};
 use der_opaque::OctetStringRef;
 
-/// Where the fields of a `RecipientEncryptedKey` stand.
+/// Byte ranges of the fields of a `RecipientEncryptedKey`.
 #[repr(C)]
 #[derive(Clone, Copy, Debug, PartialEq, Eq)]
 pub struct RecipientEncryptedKeyPlaces {

@@ -19,15 +19,15 @@ use der_enveloped::enveloped::{OtherKeyAttribute, RecipientKeyIdentifier};
 use der_extensions::extension::SubjectKeyIdentifier;
 use der_time::GeneralizedTime;
 
-/// Where the fields of a `RecipientKeyIdentifier` stand.
+/// Byte ranges of the fields of a `RecipientKeyIdentifier`.
 #[repr(C)]
 #[derive(Clone, Copy, Debug, PartialEq, Eq)]
 pub struct RecipientKeyIdentifierPlaces {
     /// `subjectKeyIdentifier`, `SubjectKeyIdentifier`.
     pub subject_key_identifier: Place,
-    /// `date`, `GeneralizedTime OPTIONAL`; no octets where it is absent.
+    /// `date`, `GeneralizedTime OPTIONAL`; empty if it is absent.
     pub date: Place,
-    /// `other`, `OtherKeyAttribute OPTIONAL`; no octets where it is absent.
+    /// `other`, `OtherKeyAttribute OPTIONAL`; empty if it is absent.
     pub other: Place,
 }
 

@@ -17,13 +17,13 @@ use crate::walk::next_place;
 use der_cms::ess::{EssCertId, Hash, IssuerSerial};
 use der_elem::Form;
 
-/// Where the fields of an `ESSCertID` stand.
+/// Byte ranges of the fields of an `ESSCertID`.
 #[repr(C)]
 #[derive(Clone, Copy, Debug, PartialEq, Eq)]
 pub struct EssCertIdPlaces {
     /// `certHash`, `Hash`.
     pub cert_hash: Place,
-    /// `issuerSerial`, `IssuerSerial OPTIONAL`; no octets where it is absent.
+    /// `issuerSerial`, `IssuerSerial OPTIONAL`; empty if it is absent.
     pub issuer_serial: Place,
 }
 

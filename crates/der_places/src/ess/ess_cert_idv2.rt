@@ -18,15 +18,15 @@ use der_cms::ess::{EssCertIdv2, Hash, IssuerSerial};
 use der_elem::Form;
 use der_pkix::AlgorithmIdentifier;
 
-/// Where the fields of an `ESSCertIDv2` stand.
+/// Byte ranges of the fields of an `ESSCertIDv2`.
 #[repr(C)]
 #[derive(Clone, Copy, Debug, PartialEq, Eq)]
 pub struct EssCertIdv2Places {
-    /// `hashAlgorithm`, `AlgorithmIdentifier OPTIONAL`; no octets where it is absent.
+    /// `hashAlgorithm`, `AlgorithmIdentifier OPTIONAL`; empty if it is absent.
     pub hash_algorithm: Place,
     /// `certHash`, `Hash`.
     pub cert_hash: Place,
-    /// `issuerSerial`, `IssuerSerial OPTIONAL`; no octets where it is absent.
+    /// `issuerSerial`, `IssuerSerial OPTIONAL`; empty if it is absent.
     pub issuer_serial: Place,
 }
 

@@ -18,7 +18,7 @@ use der_elem::Form;
 use der_extensions::extension::GeneralNames;
 use der_pkix::certificate::CertificateSerialNumber;
 
-/// Where the fields of an `IssuerSerial` stand.
+/// Byte ranges of the fields of an `IssuerSerial`.
 #[repr(C)]
 #[derive(Clone, Copy, Debug, PartialEq, Eq)]
 pub struct IssuerSerialPlaces {

@@ -19,13 +19,13 @@ use der_elem::Form;
 use der_extensions::extension::PolicyInformation;
 use der_lists::ListRef;
 
-/// Where the fields of a `SigningCertificate` stand.
+/// Byte ranges of the fields of a `SigningCertificate`.
 #[repr(C)]
 #[derive(Clone, Copy, Debug, PartialEq, Eq)]
 pub struct SigningCertificatePlaces {
     /// `certs`, `SEQUENCE OF ESSCertID`.
     pub certs: Place,
-    /// `policies`, `SEQUENCE OF PolicyInformation OPTIONAL`; no octets where it is absent.
+    /// `policies`, `SEQUENCE OF PolicyInformation OPTIONAL`; empty if it is absent.
     pub policies: Place,
 }
 

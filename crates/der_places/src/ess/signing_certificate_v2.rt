@@ -19,13 +19,13 @@ use der_elem::Form;
 use der_extensions::extension::PolicyInformation;
 use der_lists::ListRef;
 
-/// Where the fields of a `SigningCertificateV2` stand.
+/// Byte ranges of the fields of a `SigningCertificateV2`.
 #[repr(C)]
 #[derive(Clone, Copy, Debug, PartialEq, Eq)]
 pub struct SigningCertificateV2Places {
     /// `certs`, `SEQUENCE OF ESSCertIDv2`.
     pub certs: Place,
-    /// `policies`, `SEQUENCE OF PolicyInformation OPTIONAL`; no octets where it is absent.
+    /// `policies`, `SEQUENCE OF PolicyInformation OPTIONAL`; empty if it is absent.
     pub policies: Place,
 }
 

@@ -21,7 +21,7 @@ use der_elem::Form;
 use der_extensions::extension::{AccessDescription, GeneralName};
 use der_opaque::ObjectIdentifierRef;
 
-/// Where the fields of an `AccessDescription` stand.
+/// Byte ranges of the fields of an `AccessDescription`.
 #[repr(C)]
 #[derive(Clone, Copy, Debug, PartialEq, Eq)]
 pub struct AccessDescriptionPlaces {

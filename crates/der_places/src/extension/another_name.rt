@@ -19,7 +19,7 @@ use der_extensions::extension::AnotherName;
 use der_fields::Explicit;
 use der_opaque::{AnyRef, ObjectIdentifierRef};
 
-/// Where the fields of an `AnotherName` stand.
+/// Byte ranges of the fields of an `AnotherName`.
 #[repr(C)]
 #[derive(Clone, Copy, Debug, PartialEq, Eq)]
 pub struct AnotherNamePlaces {

@@ -19,16 +19,15 @@ use der_extensions::extension::{AuthorityKeyIdentifier, GeneralNames, KeyIdentif
 use der_fields::Implicit;
 use der_pkix::certificate::CertificateSerialNumber;
 
-/// Where the fields of an `AuthorityKeyIdentifier` stand.
+/// Byte ranges of the fields of an `AuthorityKeyIdentifier`.
 #[repr(C)]
 #[derive(Clone, Copy, Debug, PartialEq, Eq)]
 pub struct AuthorityKeyIdentifierPlaces {
-    /// `keyIdentifier`, `[0] KeyIdentifier OPTIONAL`; no octets where it is absent.
+    /// `keyIdentifier`, `[0] KeyIdentifier OPTIONAL`; empty if it is absent.
     pub key_identifier: Place,
-    /// `authorityCertIssuer`, `[1] GeneralNames OPTIONAL`; no octets where it is absent.
+    /// `authorityCertIssuer`, `[1] GeneralNames OPTIONAL`; empty if it is absent.
     pub authority_cert_issuer: Place,
-    /// `authorityCertSerialNumber`, `[2] CertificateSerialNumber OPTIONAL`; no octets where it is
-    /// absent.
+    /// `authorityCertSerialNumber`, `[2] CertificateSerialNumber OPTIONAL`; empty if it is absent.
     pub authority_cert_serial_number: Place,
 }
 

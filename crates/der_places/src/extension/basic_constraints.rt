@@ -20,13 +20,13 @@ use der_extensions::extension::BasicConstraints;
 use der_fields::{DefaultFalse, DefaultOf};
 use der_numbers::UintRef;
 
-/// Where the fields of a `BasicConstraints` stand.
+/// Byte ranges of the fields of a `BasicConstraints`.
 #[repr(C)]
 #[derive(Clone, Copy, Debug, PartialEq, Eq)]
 pub struct BasicConstraintsPlaces {
-    /// `cA`, `BOOLEAN DEFAULT FALSE`; no octets where it is the default.
+    /// `cA`, `BOOLEAN DEFAULT FALSE`; empty if it has its default.
     pub ca: Place,
-    /// `pathLenConstraint`, `INTEGER (0..MAX) OPTIONAL`; no octets where it is absent.
+    /// `pathLenConstraint`, `INTEGER (0..MAX) OPTIONAL`; empty if it is absent.
     pub path_len_constraint: Place,
 }
 

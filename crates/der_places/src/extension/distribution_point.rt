@@ -20,15 +20,15 @@ use der_extensions::extension::{
 };
 use der_fields::{Explicit, Implicit};
 
-/// Where the fields of a `DistributionPoint` stand.
+/// Byte ranges of the fields of a `DistributionPoint`.
 #[repr(C)]
 #[derive(Clone, Copy, Debug, PartialEq, Eq)]
 pub struct DistributionPointPlaces {
-    /// `distributionPoint`, `[0] DistributionPointName OPTIONAL`; no octets where it is absent.
+    /// `distributionPoint`, `[0] DistributionPointName OPTIONAL`; empty if it is absent.
     pub distribution_point: Place,
-    /// `reasons`, `[1] ReasonFlags OPTIONAL`; no octets where it is absent.
+    /// `reasons`, `[1] ReasonFlags OPTIONAL`; empty if it is absent.
     pub reasons: Place,
-    /// `cRLIssuer`, `[2] GeneralNames OPTIONAL`; no octets where it is absent.
+    /// `cRLIssuer`, `[2] GeneralNames OPTIONAL`; empty if it is absent.
     pub crl_issuer: Place,
 }
 

@@ -22,15 +22,15 @@ use der_elem::Form;
 use der_extensions::extension::{BaseDistance, GeneralName, GeneralSubtree};
 use der_fields::{DefaultNumber, DefaultOf, Implicit};
 
-/// Where the fields of a `GeneralSubtree` stand.
+/// Byte ranges of the fields of a `GeneralSubtree`.
 #[repr(C)]
 #[derive(Clone, Copy, Debug, PartialEq, Eq)]
 pub struct GeneralSubtreePlaces {
     /// `base`, `GeneralName`.
     pub base: Place,
-    /// `minimum`, `[0] BaseDistance DEFAULT 0`; no octets where it is the default.
+    /// `minimum`, `[0] BaseDistance DEFAULT 0`; empty if it has its default.
     pub minimum: Place,
-    /// `maximum`, `[1] BaseDistance OPTIONAL`; no octets where it is absent.
+    /// `maximum`, `[1] BaseDistance OPTIONAL`; empty if it is absent.
     pub maximum: Place,
 }
 

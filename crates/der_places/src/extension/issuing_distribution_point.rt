@@ -19,22 +19,21 @@ use der_elem::Form;
 use der_extensions::extension::{DistributionPointName, IssuingDistributionPoint, ReasonFlags};
 use der_fields::{DefaultFalse, DefaultOf, Explicit, Implicit};
 
-/// Where the fields of an `IssuingDistributionPoint` stand.
+/// Byte ranges of the fields of an `IssuingDistributionPoint`.
 #[repr(C)]
 #[derive(Clone, Copy, Debug, PartialEq, Eq)]
 pub struct IssuingDistributionPointPlaces {
-    /// `distributionPoint`, `[0] DistributionPointName OPTIONAL`; no octets where it is absent.
+    /// `distributionPoint`, `[0] DistributionPointName OPTIONAL`; empty if it is absent.
     pub distribution_point: Place,
-    /// `onlyContainsUserCerts`, `[1] BOOLEAN DEFAULT FALSE`; no octets where it is the default.
+    /// `onlyContainsUserCerts`, `[1] BOOLEAN DEFAULT FALSE`; empty if it has its default.
     pub only_contains_user_certs: Place,
-    /// `onlyContainsCACerts`, `[2] BOOLEAN DEFAULT FALSE`; no octets where it is the default.
+    /// `onlyContainsCACerts`, `[2] BOOLEAN DEFAULT FALSE`; empty if it has its default.
     pub only_contains_ca_certs: Place,
-    /// `onlySomeReasons`, `[3] ReasonFlags OPTIONAL`; no octets where it is absent.
+    /// `onlySomeReasons`, `[3] ReasonFlags OPTIONAL`; empty if it is absent.
     pub only_some_reasons: Place,
-    /// `indirectCRL`, `[4] BOOLEAN DEFAULT FALSE`; no octets where it is the default.
+    /// `indirectCRL`, `[4] BOOLEAN DEFAULT FALSE`; empty if it has its default.
     pub indirect_crl: Place,
-    /// `onlyContainsAttributeCerts`, `[5] BOOLEAN DEFAULT FALSE`; no octets where it is the
-    /// default.
+    /// `onlyContainsAttributeCerts`, `[5] BOOLEAN DEFAULT FALSE`; empty if it has its default.
     pub only_contains_attribute_certs: Place,
 }
 

@@ -18,13 +18,13 @@ use der_elem::Form;
 use der_extensions::extension::{GeneralSubtrees, NameConstraints};
 use der_fields::Implicit;
 
-/// Where the fields of a `NameConstraints` stand.
+/// Byte ranges of the fields of a `NameConstraints`.
 #[repr(C)]
 #[derive(Clone, Copy, Debug, PartialEq, Eq)]
 pub struct NameConstraintsPlaces {
-    /// `permittedSubtrees`, `[0] GeneralSubtrees OPTIONAL`; no octets where it is absent.
+    /// `permittedSubtrees`, `[0] GeneralSubtrees OPTIONAL`; empty if it is absent.
     pub permitted_subtrees: Place,
-    /// `excludedSubtrees`, `[1] GeneralSubtrees OPTIONAL`; no octets where it is absent.
+    /// `excludedSubtrees`, `[1] GeneralSubtrees OPTIONAL`; empty if it is absent.
     pub excluded_subtrees: Place,
 }
 

@@ -18,13 +18,13 @@ use der_elem::Form;
 use der_extensions::extension::{PolicyConstraints, SkipCerts};
 use der_fields::Implicit;
 
-/// Where the fields of a `PolicyConstraints` stand.
+/// Byte ranges of the fields of a `PolicyConstraints`.
 #[repr(C)]
 #[derive(Clone, Copy, Debug, PartialEq, Eq)]
 pub struct PolicyConstraintsPlaces {
-    /// `requireExplicitPolicy`, `[0] SkipCerts OPTIONAL`; no octets where it is absent.
+    /// `requireExplicitPolicy`, `[0] SkipCerts OPTIONAL`; empty if it is absent.
     pub require_explicit_policy: Place,
-    /// `inhibitPolicyMapping`, `[1] SkipCerts OPTIONAL`; no octets where it is absent.
+    /// `inhibitPolicyMapping`, `[1] SkipCerts OPTIONAL`; empty if it is absent.
     pub inhibit_policy_mapping: Place,
 }
 

@@ -18,14 +18,14 @@ use der_elem::Form;
 use der_extensions::extension::{CertPolicyId, PolicyInformation, PolicyQualifierInfo};
 use der_lists::{ListRef, NonEmptyRef};
 
-/// Where the fields of a `PolicyInformation` stand.
+/// Byte ranges of the fields of a `PolicyInformation`.
 #[repr(C)]
 #[derive(Clone, Copy, Debug, PartialEq, Eq)]
 pub struct PolicyInformationPlaces {
     /// `policyIdentifier`, `CertPolicyId`.
     pub policy_identifier: Place,
-    /// `policyQualifiers`, `SEQUENCE SIZE (1..MAX) OF PolicyQualifierInfo OPTIONAL`; no octets
-    /// where it is absent.
+    /// `policyQualifiers`, `SEQUENCE SIZE (1..MAX) OF PolicyQualifierInfo OPTIONAL`; empty if it is
+    /// absent.
     pub policy_qualifiers: Place,
 }
 

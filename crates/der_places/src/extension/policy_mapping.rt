@@ -16,7 +16,7 @@ use crate::walk::next_place;
 use der_elem::Form;
 use der_extensions::extension::{CertPolicyId, PolicyMapping};
 
-/// Where the fields of a `PolicyMapping` stand.
+/// Byte ranges of the fields of a `PolicyMapping`.
 #[repr(C)]
 #[derive(Clone, Copy, Debug, PartialEq, Eq)]
 pub struct PolicyMappingPlaces {

@@ -17,7 +17,7 @@ use der_elem::Form;
 use der_extensions::extension::{PolicyQualifierId, PolicyQualifierInfo};
 use der_opaque::AnyRef;
 
-/// Where the fields of a `PolicyQualifierInfo` stand.
+/// Byte ranges of the fields of a `PolicyQualifierInfo`.
 #[repr(C)]
 #[derive(Clone, Copy, Debug, PartialEq, Eq)]
 pub struct PolicyQualifierInfoPlaces {

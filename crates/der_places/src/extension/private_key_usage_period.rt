@@ -19,13 +19,13 @@ use der_extensions::extension::PrivateKeyUsagePeriod;
 use der_fields::Implicit;
 use der_time::GeneralizedTime;
 
-/// Where the fields of a `PrivateKeyUsagePeriod` stand.
+/// Byte ranges of the fields of a `PrivateKeyUsagePeriod`.
 #[repr(C)]
 #[derive(Clone, Copy, Debug, PartialEq, Eq)]
 pub struct PrivateKeyUsagePeriodPlaces {
-    /// `notBefore`, `[0] GeneralizedTime OPTIONAL`; no octets where it is absent.
+    /// `notBefore`, `[0] GeneralizedTime OPTIONAL`; empty if it is absent.
     pub not_before: Place,
-    /// `notAfter`, `[1] GeneralizedTime OPTIONAL`; no octets where it is absent.
+    /// `notAfter`, `[1] GeneralizedTime OPTIONAL`; empty if it is absent.
     pub not_after: Place,
 }
 

@@ -19,7 +19,7 @@ use der_elem::Form;
 use der_opaque::OctetStringRef;
 use der_pkix::key::Curve;
 
-/// Where the fields of a `Curve` stand.
+/// Byte ranges of the fields of a `Curve`.
 #[repr(C)]
 #[derive(Clone, Copy, Debug, PartialEq, Eq)]
 pub struct CurvePlaces {
@@ -27,7 +27,7 @@ pub struct CurvePlaces {
     pub a: Place,
     /// `b`, `OCTET STRING`.
     pub b: Place,
-    /// `seed`, `BIT STRING OPTIONAL`; no octets where it is absent.
+    /// `seed`, `BIT STRING OPTIONAL`; empty if it is absent.
     pub seed: Place,
 }
 

@@ -21,7 +21,7 @@ use der_fields::Explicit;
 use der_opaque::OctetStringRef;
 use der_pkix::key::{EcParameters, EcPrivateKey, EcPrivateKeyVersion};
 
-/// Where the fields of an `ECPrivateKey` stand.
+/// Byte ranges of the fields of an `ECPrivateKey`.
 #[repr(C)]
 #[derive(Clone, Copy, Debug, PartialEq, Eq)]
 pub struct EcPrivateKeyPlaces {
@@ -29,9 +29,9 @@ pub struct EcPrivateKeyPlaces {
     pub version: Place,
     /// `privateKey`, `OCTET STRING`.
     pub private_key: Place,
-    /// `parameters`, `[0] ECParameters OPTIONAL`; no octets where it is absent.
+    /// `parameters`, `[0] ECParameters OPTIONAL`; empty if it is absent.
     pub parameters: Place,
-    /// `publicKey`, `[1] BIT STRING OPTIONAL`; no octets where it is absent.
+    /// `publicKey`, `[1] BIT STRING OPTIONAL`; empty if it is absent.
     pub public_key: Place,
 }
 

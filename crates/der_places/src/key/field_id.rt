@@ -17,7 +17,7 @@ use der_elem::Form;
 use der_opaque::{AnyRef, ObjectIdentifierRef};
 use der_pkix::key::FieldId;
 
-/// Where the fields of a `FieldID` stand.
+/// Byte ranges of the fields of a `FieldID`.
 #[repr(C)]
 #[derive(Clone, Copy, Debug, PartialEq, Eq)]
 pub struct FieldIdPlaces {

@@ -22,7 +22,7 @@ use der_opaque::OctetStringRef;
 use der_pkix::AlgorithmIdentifier;
 use der_pkix::key::{Attributes, OneAsymmetricKey, OneAsymmetricKeyVersion};
 
-/// Where the fields of an `OneAsymmetricKey` stand.
+/// Byte ranges of the fields of an `OneAsymmetricKey`.
 #[repr(C)]
 #[derive(Clone, Copy, Debug, PartialEq, Eq)]
 pub struct OneAsymmetricKeyPlaces {
@@ -32,9 +32,9 @@ pub struct OneAsymmetricKeyPlaces {
     pub private_key_algorithm: Place,
     /// `privateKey`, `OCTET STRING`.
     pub private_key: Place,
-    /// `attributes`, `[0] IMPLICIT Attributes OPTIONAL`; no octets where it is absent.
+    /// `attributes`, `[0] IMPLICIT Attributes OPTIONAL`; empty if it is absent.
     pub attributes: Place,
-    /// `publicKey`, `[1] IMPLICIT BIT STRING OPTIONAL`; no octets where it is absent.
+    /// `publicKey`, `[1] IMPLICIT BIT STRING OPTIONAL`; empty if it is absent.
     pub public_key: Place,
 }
 

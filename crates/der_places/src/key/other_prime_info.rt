@@ -17,7 +17,7 @@ use der_elem::Form;
 use der_numbers::UintRef;
 use der_pkix::key::OtherPrimeInfo;
 
-/// Where the fields of an `OtherPrimeInfo` stand.
+/// Byte ranges of the fields of an `OtherPrimeInfo`.
 #[repr(C)]
 #[derive(Clone, Copy, Debug, PartialEq, Eq)]
 pub struct OtherPrimeInfoPlaces {

@@ -18,7 +18,7 @@ use der_elem::Form;
 use der_numbers::UintRef;
 use der_pkix::key::{OtherPrimeInfos, RsaPrivateKey, RsaPrivateKeyVersion};
 
-/// Where the fields of a `RSAPrivateKey` stand.
+/// Byte ranges of the fields of a `RSAPrivateKey`.
 #[repr(C)]
 #[derive(Clone, Copy, Debug, PartialEq, Eq)]
 pub struct RsaPrivateKeyPlaces {
@@ -40,7 +40,7 @@ pub struct RsaPrivateKeyPlaces {
     pub exponent2: Place,
     /// `coefficient`, `INTEGER (0..MAX)`.
     pub coefficient: Place,
-    /// `otherPrimeInfos`, `OtherPrimeInfos OPTIONAL`; no octets where it is absent.
+    /// `otherPrimeInfos`, `OtherPrimeInfos OPTIONAL`; empty if it is absent.
     pub other_prime_infos: Place,
 }
 

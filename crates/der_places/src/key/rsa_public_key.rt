@@ -17,7 +17,7 @@ use der_elem::Form;
 use der_numbers::UintRef;
 use der_pkix::key::RsaPublicKey;
 
-/// Where the fields of a `RSAPublicKey` stand.
+/// Byte ranges of the fields of a `RSAPublicKey`.
 #[repr(C)]
 #[derive(Clone, Copy, Debug, PartialEq, Eq)]
 pub struct RsaPublicKeyPlaces {

@@ -20,7 +20,7 @@ use der_opaque::OctetStringRef;
 use der_pkix::AlgorithmIdentifier;
 use der_pkix::key::{Curve, FieldId, SpecifiedEcDomain, SpecifiedEcDomainVersion};
 
-/// Where the fields of a `SpecifiedECDomain` stand.
+/// Byte ranges of the fields of a `SpecifiedECDomain`.
 #[repr(C)]
 #[derive(Clone, Copy, Debug, PartialEq, Eq)]
 pub struct SpecifiedEcDomainPlaces {
@@ -34,9 +34,9 @@ pub struct SpecifiedEcDomainPlaces {
     pub base: Place,
     /// `order`, `INTEGER`.
     pub order: Place,
-    /// `cofactor`, `INTEGER OPTIONAL`; no octets where it is absent.
+    /// `cofactor`, `INTEGER OPTIONAL`; empty if it is absent.
     pub cofactor: Place,
-    /// `hash`, `AlgorithmIdentifier OPTIONAL`; no octets where it is absent.
+    /// `hash`, `AlgorithmIdentifier OPTIONAL`; empty if it is absent.
     pub hash: Place,
 }
 

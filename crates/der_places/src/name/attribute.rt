@@ -17,7 +17,7 @@ use der_elem::Form;
 use der_lists::UnorderedSetRef;
 use der_pkix::name::{Attribute, AttributeType, AttributeValue};
 
-/// Where the fields of an `Attribute` stand.
+/// Byte ranges of the fields of an `Attribute`.
 #[repr(C)]
 #[derive(Clone, Copy, Debug, PartialEq, Eq)]
 pub struct AttributePlaces {

@@ -16,7 +16,7 @@ use crate::walk::next_place;
 use der_elem::Form;
 use der_pkix::name::{AttributeType, AttributeTypeAndValue, AttributeValue};
 
-/// Where the fields of an `AttributeTypeAndValue` stand.
+/// Byte ranges of the fields of an `AttributeTypeAndValue`.
 #[repr(C)]
 #[derive(Clone, Copy, Debug, PartialEq, Eq)]
 pub struct AttributeTypeAndValuePlaces {

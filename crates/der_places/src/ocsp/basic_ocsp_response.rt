@@ -21,7 +21,7 @@ use der_fields::Explicit;
 use der_ocsp::ocsp::{BasicOcspResponse, Certificates, ResponseData};
 use der_pkix::AlgorithmIdentifier;
 
-/// Where the fields of a `BasicOCSPResponse` stand.
+/// Byte ranges of the fields of a `BasicOCSPResponse`.
 #[repr(C)]
 #[derive(Clone, Copy, Debug, PartialEq, Eq)]
 pub struct BasicOcspResponsePlaces {
@@ -31,7 +31,7 @@ pub struct BasicOcspResponsePlaces {
     pub signature_algorithm: Place,
     /// `signature`, `BIT STRING`.
     pub signature: Place,
-    /// `certs`, `[0] EXPLICIT Certificates OPTIONAL`; no octets where it is absent.
+    /// `certs`, `[0] EXPLICIT Certificates OPTIONAL`; empty if it is absent.
     pub certs: Place,
 }
 

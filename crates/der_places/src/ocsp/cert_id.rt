@@ -19,7 +19,7 @@ use der_opaque::OctetStringRef;
 use der_pkix::AlgorithmIdentifier;
 use der_pkix::certificate::CertificateSerialNumber;
 
-/// Where the fields of a `CertID` stand.
+/// Byte ranges of the fields of a `CertID`.
 #[repr(C)]
 #[derive(Clone, Copy, Debug, PartialEq, Eq)]
 pub struct CertIdPlaces {

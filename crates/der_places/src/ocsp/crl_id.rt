@@ -21,15 +21,15 @@ use der_numbers::IntRef;
 use der_ocsp::ocsp::CrlId;
 use der_time::GeneralizedTime;
 
-/// Where the fields of a `CrlID` stand.
+/// Byte ranges of the fields of a `CrlID`.
 #[repr(C)]
 #[derive(Clone, Copy, Debug, PartialEq, Eq)]
 pub struct CrlIdPlaces {
-    /// `crlUrl`, `[0] EXPLICIT IA5String OPTIONAL`; no octets where it is absent.
+    /// `crlUrl`, `[0] EXPLICIT IA5String OPTIONAL`; empty if it is absent.
     pub crl_url: Place,
-    /// `crlNum`, `[1] EXPLICIT INTEGER OPTIONAL`; no octets where it is absent.
+    /// `crlNum`, `[1] EXPLICIT INTEGER OPTIONAL`; empty if it is absent.
     pub crl_num: Place,
-    /// `crlTime`, `[2] EXPLICIT GeneralizedTime OPTIONAL`; no octets where it is absent.
+    /// `crlTime`, `[2] EXPLICIT GeneralizedTime OPTIONAL`; empty if it is absent.
     pub crl_time: Place,
 }
 

@@ -19,13 +19,13 @@ use der_elem::Form;
 use der_fields::Explicit;
 use der_ocsp::ocsp::{OcspRequest, Signature, TbsRequest};
 
-/// Where the fields of an `OCSPRequest` stand.
+/// Byte ranges of the fields of an `OCSPRequest`.
 #[repr(C)]
 #[derive(Clone, Copy, Debug, PartialEq, Eq)]
 pub struct OcspRequestPlaces {
     /// `tbsRequest`, `TBSRequest`.
     pub tbs_request: Place,
-    /// `optionalSignature`, `[0] EXPLICIT Signature OPTIONAL`; no octets where it is absent.
+    /// `optionalSignature`, `[0] EXPLICIT Signature OPTIONAL`; empty if it is absent.
     pub optional_signature: Place,
 }
 

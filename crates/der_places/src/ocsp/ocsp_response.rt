@@ -20,13 +20,13 @@ use der_fields::Explicit;
 use der_numbers::Enumerated;
 use der_ocsp::ocsp::{OcspResponse, OcspResponseStatus, ResponseBytes};
 
-/// Where the fields of an `OCSPResponse` stand.
+/// Byte ranges of the fields of an `OCSPResponse`.
 #[repr(C)]
 #[derive(Clone, Copy, Debug, PartialEq, Eq)]
 pub struct OcspResponsePlaces {
     /// `responseStatus`, `OCSPResponseStatus`.
     pub response_status: Place,
-    /// `responseBytes`, `[0] EXPLICIT ResponseBytes OPTIONAL`; no octets where it is absent.
+    /// `responseBytes`, `[0] EXPLICIT ResponseBytes OPTIONAL`; empty if it is absent.
     pub response_bytes: Place,
 }
 

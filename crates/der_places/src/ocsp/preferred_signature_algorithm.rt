@@ -18,13 +18,13 @@ use der_elem::Form;
 use der_ocsp::ocsp::PreferredSignatureAlgorithm;
 use der_pkix::AlgorithmIdentifier;
 
-/// Where the fields of a `PreferredSignatureAlgorithm` stand.
+/// Byte ranges of the fields of a `PreferredSignatureAlgorithm`.
 #[repr(C)]
 #[derive(Clone, Copy, Debug, PartialEq, Eq)]
 pub struct PreferredSignatureAlgorithmPlaces {
     /// `sigIdentifier`, `AlgorithmIdentifier`.
     pub sig_identifier: Place,
-    /// `certIdentifier`, `AlgorithmIdentifier OPTIONAL`; no octets where it is absent.
+    /// `certIdentifier`, `AlgorithmIdentifier OPTIONAL`; empty if it is absent.
     pub cert_identifier: Place,
 }
 

@@ -20,13 +20,13 @@ use der_fields::Explicit;
 use der_ocsp::ocsp::{CertId, Request};
 use der_pkix::certificate::Extensions;
 
-/// Where the fields of a `Request` stand.
+/// Byte ranges of the fields of a `Request`.
 #[repr(C)]
 #[derive(Clone, Copy, Debug, PartialEq, Eq)]
 pub struct RequestPlaces {
     /// `reqCert`, `CertID`.
     pub req_cert: Place,
-    /// `singleRequestExtensions`, `[0] EXPLICIT Extensions OPTIONAL`; no octets where it is absent.
+    /// `singleRequestExtensions`, `[0] EXPLICIT Extensions OPTIONAL`; empty if it is absent.
     pub single_request_extensions: Place,
 }
 

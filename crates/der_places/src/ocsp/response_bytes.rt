@@ -17,7 +17,7 @@ use der_elem::Form;
 use der_ocsp::ocsp::ResponseBytes;
 use der_opaque::{ObjectIdentifierRef, OctetStringRef};
 
-/// Where the fields of a `ResponseBytes` stand.
+/// Byte ranges of the fields of a `ResponseBytes`.
 #[repr(C)]
 #[derive(Clone, Copy, Debug, PartialEq, Eq)]
 pub struct ResponseBytesPlaces {

@@ -26,11 +26,11 @@ use der_ocsp::ocsp::{ResponderId, ResponseData, SingleResponses, Version};
 use der_pkix::certificate::Extensions;
 use der_time::GeneralizedTime;
 
-/// Where the fields of a `ResponseData` stand.
+/// Byte ranges of the fields of a `ResponseData`.
 #[repr(C)]
 #[derive(Clone, Copy, Debug, PartialEq, Eq)]
 pub struct ResponseDataPlaces {
-    /// `version`, `[0] EXPLICIT Version DEFAULT v1`; no octets where it is the default.
+    /// `version`, `[0] EXPLICIT Version DEFAULT v1`; empty if it has its default.
     pub version: Place,
     /// `responderID`, `ResponderID`.
     pub responder_id: Place,
@@ -38,7 +38,7 @@ pub struct ResponseDataPlaces {
     pub produced_at: Place,
     /// `responses`, `SingleResponses`.
     pub responses: Place,
-    /// `responseExtensions`, `[1] EXPLICIT Extensions OPTIONAL`; no octets where it is absent.
+    /// `responseExtensions`, `[1] EXPLICIT Extensions OPTIONAL`; empty if it is absent.
     pub response_extensions: Place,
 }
 

@@ -22,13 +22,13 @@ use der_numbers::Enumerated;
 use der_ocsp::ocsp::RevokedInfo;
 use der_time::GeneralizedTime;
 
-/// Where the fields of a `RevokedInfo` stand.
+/// Byte ranges of the fields of a `RevokedInfo`.
 #[repr(C)]
 #[derive(Clone, Copy, Debug, PartialEq, Eq)]
 pub struct RevokedInfoPlaces {
     /// `revocationTime`, `GeneralizedTime`.
     pub revocation_time: Place,
-    /// `revocationReason`, `[0] EXPLICIT CRLReason OPTIONAL`; no octets where it is absent.
+    /// `revocationReason`, `[0] EXPLICIT CRLReason OPTIONAL`; empty if it is absent.
     pub revocation_reason: Place,
 }
 

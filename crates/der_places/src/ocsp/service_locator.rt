@@ -18,7 +18,7 @@ use der_extensions::extension::AuthorityInfoAccessSyntax;
 use der_ocsp::ocsp::ServiceLocator;
 use der_pkix::name::Name;
 
-/// Where the fields of a `ServiceLocator` stand.
+/// Byte ranges of the fields of a `ServiceLocator`.
 #[repr(C)]
 #[derive(Clone, Copy, Debug, PartialEq, Eq)]
 pub struct ServiceLocatorPlaces {

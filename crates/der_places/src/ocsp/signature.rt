@@ -21,7 +21,7 @@ use der_fields::Explicit;
 use der_ocsp::ocsp::{Certificates, Signature};
 use der_pkix::AlgorithmIdentifier;
 
-/// Where the fields of a `Signature` stand.
+/// Byte ranges of the fields of a `Signature`.
 #[repr(C)]
 #[derive(Clone, Copy, Debug, PartialEq, Eq)]
 pub struct SignaturePlaces {
@@ -29,7 +29,7 @@ pub struct SignaturePlaces {
     pub signature_algorithm: Place,
     /// `signature`, `BIT STRING`.
     pub signature: Place,
-    /// `certs`, `[0] EXPLICIT Certificates OPTIONAL`; no octets where it is absent.
+    /// `certs`, `[0] EXPLICIT Certificates OPTIONAL`; empty if it is absent.
     pub certs: Place,
 }
 

@@ -24,7 +24,7 @@ use der_ocsp::ocsp::{CertId, CertStatus, SingleResponse};
 use der_pkix::certificate::Extensions;
 use der_time::GeneralizedTime;
 
-/// Where the fields of a `SingleResponse` stand.
+/// Byte ranges of the fields of a `SingleResponse`.
 #[repr(C)]
 #[derive(Clone, Copy, Debug, PartialEq, Eq)]
 pub struct SingleResponsePlaces {
@@ -34,9 +34,9 @@ pub struct SingleResponsePlaces {
     pub cert_status: Place,
     /// `thisUpdate`, `GeneralizedTime`.
     pub this_update: Place,
-    /// `nextUpdate`, `[0] EXPLICIT GeneralizedTime OPTIONAL`; no octets where it is absent.
+    /// `nextUpdate`, `[0] EXPLICIT GeneralizedTime OPTIONAL`; empty if it is absent.
     pub next_update: Place,
-    /// `singleExtensions`, `[1] EXPLICIT Extensions OPTIONAL`; no octets where it is absent.
+    /// `singleExtensions`, `[1] EXPLICIT Extensions OPTIONAL`; empty if it is absent.
     pub single_extensions: Place,
 }
 

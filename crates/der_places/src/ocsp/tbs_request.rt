@@ -23,17 +23,17 @@ use der_modules::tagged;
 use der_ocsp::ocsp::{Requests, TbsRequest, Version};
 use der_pkix::certificate::Extensions;
 
-/// Where the fields of a `TBSRequest` stand.
+/// Byte ranges of the fields of a `TBSRequest`.
 #[repr(C)]
 #[derive(Clone, Copy, Debug, PartialEq, Eq)]
 pub struct TbsRequestPlaces {
-    /// `version`, `[0] EXPLICIT Version DEFAULT v1`; no octets where it is the default.
+    /// `version`, `[0] EXPLICIT Version DEFAULT v1`; empty if it has its default.
     pub version: Place,
-    /// `requestorName`, `[1] EXPLICIT GeneralName OPTIONAL`; no octets where it is absent.
+    /// `requestorName`, `[1] EXPLICIT GeneralName OPTIONAL`; empty if it is absent.
     pub requestor_name: Place,
     /// `requestList`, `Requests`.
     pub request_list: Place,
-    /// `requestExtensions`, `[2] EXPLICIT Extensions OPTIONAL`; no octets where it is absent.
+    /// `requestExtensions`, `[2] EXPLICIT Extensions OPTIONAL`; empty if it is absent.
     pub request_extensions: Place,
 }
 

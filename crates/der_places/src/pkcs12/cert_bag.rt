@@ -19,7 +19,7 @@ use der_fields::Explicit;
 use der_opaque::{AnyRef, ObjectIdentifierRef};
 use der_pkcs::pkcs12::CertBag;
 
-/// Where the fields of a `CertBag` stand.
+/// Byte ranges of the fields of a `CertBag`.
 #[repr(C)]
 #[derive(Clone, Copy, Debug, PartialEq, Eq)]
 pub struct CertBagPlaces {

@@ -20,13 +20,13 @@ use der_fields::Explicit;
 use der_opaque::{AnyRef, ObjectIdentifierRef};
 use der_pkcs::pkcs12::ContentInfo;
 
-/// Where the fields of a `ContentInfo` stand.
+/// Byte ranges of the fields of a `ContentInfo`.
 #[repr(C)]
 #[derive(Clone, Copy, Debug, PartialEq, Eq)]
 pub struct ContentInfoPlaces {
     /// `contentType`, `OBJECT IDENTIFIER`.
     pub content_type: Place,
-    /// `content`, `[0] EXPLICIT ANY DEFINED BY contentType OPTIONAL`; no octets where it is absent.
+    /// `content`, `[0] EXPLICIT ANY DEFINED BY contentType OPTIONAL`; empty if it is absent.
     pub content: Place,
 }
 

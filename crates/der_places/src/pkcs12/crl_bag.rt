@@ -19,7 +19,7 @@ use der_fields::Explicit;
 use der_opaque::{AnyRef, ObjectIdentifierRef};
 use der_pkcs::pkcs12::CrlBag;
 
-/// Where the fields of a `CRLBag` stand.
+/// Byte ranges of the fields of a `CRLBag`.
 #[repr(C)]
 #[derive(Clone, Copy, Debug, PartialEq, Eq)]
 pub struct CrlBagPlaces {

@@ -18,7 +18,7 @@ use der_opaque::OctetStringRef;
 use der_pkcs::pkcs12::DigestInfo;
 use der_pkix::AlgorithmIdentifier;
 
-/// Where the fields of a `DigestInfo` stand.
+/// Byte ranges of the fields of a `DigestInfo`.
 #[repr(C)]
 #[derive(Clone, Copy, Debug, PartialEq, Eq)]
 pub struct DigestInfoPlaces {

@@ -18,7 +18,7 @@ use der_elem::Form;
 use der_opaque::OctetStringRef;
 use der_pkcs::pkcs12::{DigestInfo, MacData};
 
-/// Where the fields of a `MacData` stand.
+/// Byte ranges of the fields of a `MacData`.
 #[repr(C)]
 #[derive(Clone, Copy, Debug, PartialEq, Eq)]
 pub struct MacDataPlaces {
@@ -26,7 +26,7 @@ pub struct MacDataPlaces {
     pub mac: Place,
     /// `macSalt`, `OCTET STRING`.
     pub mac_salt: Place,
-    /// `iterations`, `INTEGER OPTIONAL`; no octets where it is absent.
+    /// `iterations`, `INTEGER OPTIONAL`; empty if it is absent.
     pub iterations: Place,
 }
 

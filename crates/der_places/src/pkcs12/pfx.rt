@@ -17,7 +17,7 @@ use crate::walk::next_place;
 use der_elem::Form;
 use der_pkcs::pkcs12::{ContentInfo, MacData, Pfx, PfxVersion};
 
-/// Where the fields of a `PFX` stand.
+/// Byte ranges of the fields of a `PFX`.
 #[repr(C)]
 #[derive(Clone, Copy, Debug, PartialEq, Eq)]
 pub struct PfxPlaces {
@@ -25,7 +25,7 @@ pub struct PfxPlaces {
     pub version: Place,
     /// `authSafe`, `ContentInfo`.
     pub auth_safe: Place,
-    /// `macData`, `MacData OPTIONAL`; no octets where it is absent.
+    /// `macData`, `MacData OPTIONAL`; empty if it is absent.
     pub mac_data: Place,
 }
 

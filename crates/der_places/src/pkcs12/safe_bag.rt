@@ -21,7 +21,7 @@ use der_opaque::{AnyRef, ObjectIdentifierRef};
 use der_pkcs::pkcs12::SafeBag;
 use der_pkix::key::Attributes;
 
-/// Where the fields of a `SafeBag` stand.
+/// Byte ranges of the fields of a `SafeBag`.
 #[repr(C)]
 #[derive(Clone, Copy, Debug, PartialEq, Eq)]
 pub struct SafeBagPlaces {
@@ -29,7 +29,7 @@ pub struct SafeBagPlaces {
     pub bag_id: Place,
     /// `bagValue`, `[0] EXPLICIT ANY DEFINED BY bagId`.
     pub bag_value: Place,
-    /// `bagAttributes`, `Attributes OPTIONAL`; no octets where it is absent.
+    /// `bagAttributes`, `Attributes OPTIONAL`; empty if it is absent.
     pub bag_attributes: Place,
 }
 

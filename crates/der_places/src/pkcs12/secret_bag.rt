@@ -19,7 +19,7 @@ use der_fields::Explicit;
 use der_opaque::{AnyRef, ObjectIdentifierRef};
 use der_pkcs::pkcs12::SecretBag;
 
-/// Where the fields of a `SecretBag` stand.
+/// Byte ranges of the fields of a `SecretBag`.
 #[repr(C)]
 #[derive(Clone, Copy, Debug, PartialEq, Eq)]
 pub struct SecretBagPlaces {

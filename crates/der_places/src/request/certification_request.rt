@@ -18,7 +18,7 @@ use der_elem::Form;
 use der_pkcs::request::{CertificationRequest, CertificationRequestInfo};
 use der_pkix::AlgorithmIdentifier;
 
-/// Where the fields of a `CertificationRequest` stand.
+/// Byte ranges of the fields of a `CertificationRequest`.
 #[repr(C)]
 #[derive(Clone, Copy, Debug, PartialEq, Eq)]
 pub struct CertificationRequestPlaces {

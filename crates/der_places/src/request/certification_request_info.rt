@@ -21,7 +21,7 @@ use der_pkix::certificate::SubjectPublicKeyInfo;
 use der_pkix::key::Attributes;
 use der_pkix::name::Name;
 
-/// Where the fields of a `CertificationRequestInfo` stand.
+/// Byte ranges of the fields of a `CertificationRequestInfo`.
 #[repr(C)]
 #[derive(Clone, Copy, Debug, PartialEq, Eq)]
 pub struct CertificationRequestInfoPlaces {

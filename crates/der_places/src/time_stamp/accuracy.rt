@@ -19,15 +19,15 @@ use der_elem::Form;
 use der_fields::Implicit;
 use der_time_stamp::time_stamp::Accuracy;
 
-/// Where the fields of an `Accuracy` stand.
+/// Byte ranges of the fields of an `Accuracy`.
 #[repr(C)]
 #[derive(Clone, Copy, Debug, PartialEq, Eq)]
 pub struct AccuracyPlaces {
-    /// `seconds`, `INTEGER OPTIONAL`; no octets where it is absent.
+    /// `seconds`, `INTEGER OPTIONAL`; empty if it is absent.
     pub seconds: Place,
-    /// `millis`, `[0] INTEGER (1..999) OPTIONAL`; no octets where it is absent.
+    /// `millis`, `[0] INTEGER (1..999) OPTIONAL`; empty if it is absent.
     pub millis: Place,
-    /// `micros`, `[1] INTEGER (1..999) OPTIONAL`; no octets where it is absent.
+    /// `micros`, `[1] INTEGER (1..999) OPTIONAL`; empty if it is absent.
     pub micros: Place,
 }
 

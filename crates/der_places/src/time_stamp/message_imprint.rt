@@ -18,7 +18,7 @@ use der_opaque::OctetStringRef;
 use der_pkix::AlgorithmIdentifier;
 use der_time_stamp::time_stamp::MessageImprint;
 
-/// Where the fields of a `MessageImprint` stand.
+/// Byte ranges of the fields of a `MessageImprint`.
 #[repr(C)]
 #[derive(Clone, Copy, Debug, PartialEq, Eq)]
 pub struct MessageImprintPlaces {

@@ -17,15 +17,15 @@ use crate::walk::next_place;
 use der_elem::Form;
 use der_time_stamp::time_stamp::{PkiFailureInfo, PkiFreeText, PkiStatus, PkiStatusInfo};
 
-/// Where the fields of a `PKIStatusInfo` stand.
+/// Byte ranges of the fields of a `PKIStatusInfo`.
 #[repr(C)]
 #[derive(Clone, Copy, Debug, PartialEq, Eq)]
 pub struct PkiStatusInfoPlaces {
     /// `status`, `PKIStatus`.
     pub status: Place,
-    /// `statusString`, `PKIFreeText OPTIONAL`; no octets where it is absent.
+    /// `statusString`, `PKIFreeText OPTIONAL`; empty if it is absent.
     pub status_string: Place,
-    /// `failInfo`, `PKIFailureInfo OPTIONAL`; no octets where it is absent.
+    /// `failInfo`, `PKIFailureInfo OPTIONAL`; empty if it is absent.
     pub fail_info: Place,
 }
 

@@ -22,7 +22,7 @@ use der_numbers::IntRef;
 use der_pkix::certificate::Extensions;
 use der_time_stamp::time_stamp::{MessageImprint, TimeStampReq, TimeStampReqVersion, TsaPolicyId};
 
-/// Where the fields of a `TimeStampReq` stand.
+/// Byte ranges of the fields of a `TimeStampReq`.
 #[repr(C)]
 #[derive(Clone, Copy, Debug, PartialEq, Eq)]
 pub struct TimeStampReqPlaces {
@@ -30,13 +30,13 @@ pub struct TimeStampReqPlaces {
     pub version: Place,
     /// `messageImprint`, `MessageImprint`.
     pub message_imprint: Place,
-    /// `reqPolicy`, `TSAPolicyId OPTIONAL`; no octets where it is absent.
+    /// `reqPolicy`, `TSAPolicyId OPTIONAL`; empty if it is absent.
     pub req_policy: Place,
-    /// `nonce`, `INTEGER OPTIONAL`; no octets where it is absent.
+    /// `nonce`, `INTEGER OPTIONAL`; empty if it is absent.
     pub nonce: Place,
-    /// `certReq`, `BOOLEAN DEFAULT FALSE`; no octets where it is the default.
+    /// `certReq`, `BOOLEAN DEFAULT FALSE`; empty if it has its default.
     pub cert_req: Place,
-    /// `extensions`, `[0] IMPLICIT Extensions OPTIONAL`; no octets where it is absent.
+    /// `extensions`, `[0] IMPLICIT Extensions OPTIONAL`; empty if it is absent.
     pub extensions: Place,
 }
 

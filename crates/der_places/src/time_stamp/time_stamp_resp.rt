@@ -17,13 +17,13 @@ use crate::walk::next_place;
 use der_elem::Form;
 use der_time_stamp::time_stamp::{PkiStatusInfo, TimeStampResp, TimeStampToken};
 
-/// Where the fields of a `TimeStampResp` stand.
+/// Byte ranges of the fields of a `TimeStampResp`.
 #[repr(C)]
 #[derive(Clone, Copy, Debug, PartialEq, Eq)]
 pub struct TimeStampRespPlaces {
     /// `status`, `PKIStatusInfo`.
     pub status: Place,
-    /// `timeStampToken`, `TimeStampToken OPTIONAL`; no octets where it is absent.
+    /// `timeStampToken`, `TimeStampToken OPTIONAL`; empty if it is absent.
     pub time_stamp_token: Place,
 }
 

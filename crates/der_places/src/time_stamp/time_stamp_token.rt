@@ -19,7 +19,7 @@ use der_fields::Explicit;
 use der_opaque::{AnyRef, ObjectIdentifierRef};
 use der_time_stamp::time_stamp::TimeStampToken;
 
-/// Where the fields of a `TimeStampToken` stand.
+/// Byte ranges of the fields of a `TimeStampToken`.
 #[repr(C)]
 #[derive(Clone, Copy, Debug, PartialEq, Eq)]
 pub struct TimeStampTokenPlaces {

@@ -24,7 +24,7 @@ use der_pkix::certificate::Extensions;
 use der_simple::FractionalTimeRef;
 use der_time_stamp::time_stamp::{Accuracy, MessageImprint, TsaPolicyId, TstInfo, TstInfoVersion};
 
-/// Where the fields of a `TSTInfo` stand.
+/// Byte ranges of the fields of a `TSTInfo`.
 #[repr(C)]
 #[derive(Clone, Copy, Debug, PartialEq, Eq)]
 pub struct TstInfoPlaces {
@@ -38,15 +38,15 @@ pub struct TstInfoPlaces {
     pub serial_number: Place,
     /// `genTime`, `GeneralizedTime`.
     pub gen_time: Place,
-    /// `accuracy`, `Accuracy OPTIONAL`; no octets where it is absent.
+    /// `accuracy`, `Accuracy OPTIONAL`; empty if it is absent.
     pub accuracy: Place,
-    /// `ordering`, `BOOLEAN DEFAULT FALSE`; no octets where it is the default.
+    /// `ordering`, `BOOLEAN DEFAULT FALSE`; empty if it has its default.
     pub ordering: Place,
-    /// `nonce`, `INTEGER OPTIONAL`; no octets where it is absent.
+    /// `nonce`, `INTEGER OPTIONAL`; empty if it is absent.
     pub nonce: Place,
-    /// `tsa`, `[0] GeneralName OPTIONAL`; no octets where it is absent.
+    /// `tsa`, `[0] GeneralName OPTIONAL`; empty if it is absent.
     pub tsa: Place,
-    /// `extensions`, `[1] IMPLICIT Extensions OPTIONAL`; no octets where it is absent.
+    /// `extensions`, `[1] IMPLICIT Extensions OPTIONAL`; empty if it is absent.
     pub extensions: Place,
 }
 

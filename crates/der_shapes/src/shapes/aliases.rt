@@ -1,4 +1,4 @@
-//! Second names of types in Shapes.
+//! Type aliases of Shapes.
 //!
 //! Made by tools/asn1 from shapes.asn1.
 
@@ -17,7 +17,7 @@ use der_elem::Form;
 /// ```
 pub type Small = Constrained<i8, InRange<-5, 10>>;
 
-/// What is read as `Small` is what the page of the grammar says.
+/// What is read as `Small` is what the grammar page says.
 pub fn grammar_of_small()
     ensures { ⟦<Small as Form>⟧.parse ≡ parse_of small }
 {}
@@ -33,7 +33,7 @@ pub type Code<'a> = Constrained<
     >,
 >;
 
-/// What is read as `Code` is what the page of the grammar says.
+/// What is read as `Code` is what the grammar page says.
 pub fn grammar_of_code<'a>()
     ensures { ⟦<Code<'a> as Form>⟧.parse ≡ parse_of code }
 {}
@@ -45,7 +45,7 @@ pub fn grammar_of_code<'a>()
 /// A number outside -32768..32767 is refused: the names alone say how wide the type is.
 pub type Level = i16;
 
-/// What is read as `Level` is what the page of the grammar says.
+/// What is read as `Level` is what the grammar page says.
 pub fn grammar_of_level()
     ensures { ⟦<Level as Form>⟧.parse ≡ parse_of level }
 {}

@@ -221,7 +221,7 @@ impl<'a> ContentsEq for Bounded<'a> {
 
 impl<'a> CopyIsDuplicate for Bounded<'a> {}
 
-/// What is read as `Bounded` is what the page of the grammar says.
+/// What is read as `Bounded` is what the grammar page says.
 pub fn grammar_of_bounded<'a>()
     ensures { ⟦<Bounded<'a> as Form>⟧.parse ≡ parse_of bounded }
 {}

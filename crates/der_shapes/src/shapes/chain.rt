@@ -102,7 +102,7 @@ impl<'a> ContentsEq for Chain<'a> {
 
 impl<'a> CopyIsDuplicate for Chain<'a> {}
 
-/// What is read as `Chain` is what the page of the grammar says.
+/// What is read as `Chain` is what the grammar page says.
 pub fn grammar_of_chain<'a>()
     ensures { ⟦<Chain<'a> as Form>⟧.parse ≡ parse_of chain }
 {}

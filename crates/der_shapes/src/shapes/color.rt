@@ -49,7 +49,7 @@ impl Enumeration for Color {
     }
 }
 
-/// What is read as `Color` is what the page of the grammar says.
+/// What is read as `Color` is what the grammar page says.
 pub fn grammar_of_color()
     ensures { ⟦<Enumerated<Color> as Form>⟧.parse ≡ parse_of color }
 {}

@@ -248,7 +248,7 @@ impl<'a> ContentsEq for Counted<'a> {
 
 impl<'a> CopyIsDuplicate for Counted<'a> {}
 
-/// What is read as `Counted` is what the page of the grammar says.
+/// What is read as `Counted` is what the grammar page says.
 pub fn grammar_of_counted<'a>()
     ensures { ⟦<Counted<'a> as Form>⟧.parse ≡ parse_of counted }
 {}

@@ -241,7 +241,7 @@ impl<'a> ContentsEq for Described<'a> {
 
 impl<'a> CopyIsDuplicate for Described<'a> {}
 
-/// What is read as `Described` is what the page of the grammar says.
+/// What is read as `Described` is what the grammar page says.
 pub fn grammar_of_described<'a>()
     ensures { ⟦<Described<'a> as Form>⟧.parse ≡ parse_of described }
 {}

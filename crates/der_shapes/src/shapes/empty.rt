@@ -102,7 +102,7 @@ impl ContentsEq for Empty {
 
 impl CopyIsDuplicate for Empty {}
 
-/// What is read as `Empty` is what the page of the grammar says.
+/// What is read as `Empty` is what the grammar page says.
 pub fn grammar_of_empty()
     ensures { ⟦<Empty as Form>⟧.parse ≡ parse_of empty }
 {}

@@ -158,7 +158,7 @@ impl<'a> ContentsEq for Extensible<'a> {
 
 impl<'a> CopyIsDuplicate for Extensible<'a> {}
 
-/// What is read as `Extensible` is what the page of the grammar says.
+/// What is read as `Extensible` is what the grammar page says.
 pub fn grammar_of_extensible<'a>()
     ensures { ⟦<Extensible<'a> as Form>⟧.parse ≡ parse_of extensible }
 {}

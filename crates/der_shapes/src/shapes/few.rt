@@ -108,7 +108,7 @@ impl<'a> ContentsEq for Few<'a> {
 
 impl<'a> CopyIsDuplicate for Few<'a> {}
 
-/// What is read as `Few` is what the page of the grammar says.
+/// What is read as `Few` is what the grammar page says.
 pub fn grammar_of_few<'a>()
     ensures { ⟦<Few<'a> as Form>⟧.parse ≡ parse_of few }
 {}

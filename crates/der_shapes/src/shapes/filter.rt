@@ -248,7 +248,7 @@ impl<'a> DuplicateIsEqual for Filter<'a> {
     ghost copy_is_equal = { ⟦<Filter<'a> as CopyLaws>⟧.copies.laws.equal_are };
 }
 
-/// What is read as `Filter` is what the page of the grammar says.
+/// What is read as `Filter` is what the grammar page says.
 pub fn grammar_of_filter<'a>()
     ensures { ⟦<Filter<'a> as Form>⟧.parse ≡ parse_of filter }
 {}

@@ -248,7 +248,7 @@ impl<'a> DuplicateIsEqual for General<'a> {
     ghost copy_is_equal = { ⟦<General<'a> as CopyLaws>⟧.copies.laws.equal_are };
 }
 
-/// What is read as `General` is what the page of the grammar says.
+/// What is read as `General` is what the grammar page says.
 pub fn grammar_of_general<'a>()
     ensures { ⟦<General<'a> as Form>⟧.parse ≡ parse_of general }
 {}

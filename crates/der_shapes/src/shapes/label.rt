@@ -249,7 +249,7 @@ impl<'a> DuplicateIsEqual for Label<'a> {
     ghost copy_is_equal = { ⟦<Label<'a> as CopyLaws>⟧.copies.laws.equal_are };
 }
 
-/// What is read as `Label` is what the page of the grammar says.
+/// What is read as `Label` is what the grammar page says.
 pub fn grammar_of_label<'a>()
     ensures { ⟦<Label<'a> as Form>⟧.parse ≡ parse_of label }
 {}

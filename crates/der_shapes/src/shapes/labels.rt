@@ -240,7 +240,7 @@ impl<'a> DuplicateValueIsEqual for Labels<'a> {
     ghost copy_value_is_equal = { ⟦<Labels<'a> as CopyLaws>⟧.copies.laws.equal_are };
 }
 
-/// What is read as `Labels` is what the page of the grammar says.
+/// What is read as `Labels` is what the grammar page says.
 pub fn grammar_of_labels<'a>()
     ensures { ⟦<Labels<'a> as Form>⟧.parse ≡ parse_of labels }
 {}

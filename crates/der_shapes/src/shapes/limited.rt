@@ -250,7 +250,7 @@ impl<'a> DuplicateIsEqual for Limited<'a> {
     ghost copy_is_equal = { ⟦<Limited<'a> as CopyLaws>⟧.copies.laws.equal_are };
 }
 
-/// What is read as `Limited` is what the page of the grammar says.
+/// What is read as `Limited` is what the grammar page says.
 pub fn grammar_of_limited<'a>()
     ensures { ⟦<Limited<'a> as Form>⟧.parse ≡ parse_of limited }
 {}

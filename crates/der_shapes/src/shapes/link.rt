@@ -141,7 +141,7 @@ impl<'a> ContentsEq for Link<'a> {
 
 impl<'a> CopyIsDuplicate for Link<'a> {}
 
-/// What is read as `Link` is what the page of the grammar says.
+/// What is read as `Link` is what the grammar page says.
 pub fn grammar_of_link<'a>()
     ensures { ⟦<Link<'a> as Form>⟧.parse ≡ parse_of link }
 {}

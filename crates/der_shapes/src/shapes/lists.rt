@@ -190,7 +190,7 @@ impl<'a> ContentsEq for Lists<'a> {
 
 impl<'a> CopyIsDuplicate for Lists<'a> {}
 
-/// What is read as `Lists` is what the page of the grammar says.
+/// What is read as `Lists` is what the grammar page says.
 pub fn grammar_of_lists<'a>()
     ensures { ⟦<Lists<'a> as Form>⟧.parse ≡ parse_of lists }
 {}

@@ -173,7 +173,7 @@ impl ContentsEq for Marks {
 
 impl CopyIsDuplicate for Marks {}
 
-/// What is read as `Marks` is what the page of the grammar says.
+/// What is read as `Marks` is what the grammar page says.
 pub fn grammar_of_marks()
     ensures { ⟦<Marks as Form>⟧.parse ≡ parse_of marks }
 {}

@@ -102,7 +102,7 @@ impl ContentsEq for MarksFourth {
 
 impl CopyIsDuplicate for MarksFourth {}
 
-/// What is read as `MarksFourth` is what the page of the grammar says.
+/// What is read as `MarksFourth` is what the grammar page says.
 pub fn grammar_of_marks_fourth()
     ensures { ⟦<MarksFourth as Form>⟧.parse ≡ parse_of marks_fourth }
 {}

@@ -143,7 +143,7 @@ impl<'a> ContentsEq for Mixed<'a> {
 
 impl<'a> CopyIsDuplicate for Mixed<'a> {}
 
-/// What is read as `Mixed` is what the page of the grammar says.
+/// What is read as `Mixed` is what the grammar page says.
 pub fn grammar_of_mixed<'a>()
     ensures { ⟦<Mixed<'a> as Form>⟧.parse ≡ parse_of mixed }
 {}

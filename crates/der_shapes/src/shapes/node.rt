@@ -178,7 +178,7 @@ impl<'a> ContentsEq for Node<'a> {
 
 impl<'a> CopyIsDuplicate for Node<'a> {}
 
-/// What is read as `Node` is what the page of the grammar says.
+/// What is read as `Node` is what the grammar page says.
 pub fn grammar_of_node<'a>()
     ensures { ⟦<Node<'a> as Form>⟧.parse ≡ parse_of node }
 {}

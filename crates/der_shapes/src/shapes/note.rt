@@ -240,7 +240,7 @@ impl<'a> DuplicateIsEqual for Note<'a> {
     ghost copy_is_equal = { ⟦<Note<'a> as CopyLaws>⟧.copies.laws.equal_are };
 }
 
-/// What is read as `Note` is what the page of the grammar says.
+/// What is read as `Note` is what the grammar page says.
 pub fn grammar_of_note<'a>()
     ensures { ⟦<Note<'a> as Form>⟧.parse ≡ parse_of note }
 {}

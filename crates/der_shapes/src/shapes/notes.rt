@@ -173,7 +173,7 @@ impl<'a> ContentsEq for Notes<'a> {
 
 impl<'a> CopyIsDuplicate for Notes<'a> {}
 
-/// What is read as `Notes` is what the page of the grammar says.
+/// What is read as `Notes` is what the grammar page says.
 pub fn grammar_of_notes<'a>()
     ensures { ⟦<Notes<'a> as Form>⟧.parse ≡ parse_of notes }
 {}

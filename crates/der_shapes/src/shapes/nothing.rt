@@ -104,7 +104,7 @@ impl ContentsEq for Nothing {
 
 impl CopyIsDuplicate for Nothing {}
 
-/// What is read as `Nothing` is what the page of the grammar says.
+/// What is read as `Nothing` is what the grammar page says.
 pub fn grammar_of_nothing()
     ensures { ⟦<Nothing as Form>⟧.parse ≡ parse_of nothing }
 {}

@@ -101,7 +101,7 @@ impl<'a> ContentsEq for Numbers<'a> {
 
 impl<'a> CopyIsDuplicate for Numbers<'a> {}
 
-/// What is read as `Numbers` is what the page of the grammar says.
+/// What is read as `Numbers` is what the grammar page says.
 pub fn grammar_of_numbers<'a>()
     ensures { ⟦<Numbers<'a> as Form>⟧.parse ≡ parse_of numbers }
 {}

@@ -101,7 +101,7 @@ impl<'a> ContentsEq for Ordered<'a> {
 
 impl<'a> CopyIsDuplicate for Ordered<'a> {}
 
-/// What is read as `Ordered` is what the page of the grammar says.
+/// What is read as `Ordered` is what the grammar page says.
 pub fn grammar_of_ordered<'a>()
     ensures { ⟦<Ordered<'a> as Form>⟧.parse ≡ parse_of ordered }
 {}

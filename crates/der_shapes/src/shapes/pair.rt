@@ -134,7 +134,7 @@ impl<'a> ContentsEq for Pair<'a> {
 
 impl<'a> CopyIsDuplicate for Pair<'a> {}
 
-/// What is read as `Pair` is what the page of the grammar says.
+/// What is read as `Pair` is what the grammar page says.
 pub fn grammar_of_pair<'a>()
     ensures { ⟦<Pair<'a> as Form>⟧.parse ≡ parse_of pair }
 {}

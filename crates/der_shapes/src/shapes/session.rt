@@ -175,7 +175,7 @@ impl<'a> ContentsEq for Session<'a> {
 
 impl<'a> CopyIsDuplicate for Session<'a> {}
 
-/// What is read as `Session` is what the page of the grammar says.
+/// What is read as `Session` is what the grammar page says.
 pub fn grammar_of_session<'a>()
     ensures { ⟦<Session<'a> as Form>⟧.parse ≡ parse_of session }
 {}

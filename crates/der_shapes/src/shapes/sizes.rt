@@ -209,7 +209,7 @@ impl<'a> ContentsEq for Sizes<'a> {
 
 impl<'a> CopyIsDuplicate for Sizes<'a> {}
 
-/// What is read as `Sizes` is what the page of the grammar says.
+/// What is read as `Sizes` is what the grammar page says.
 pub fn grammar_of_sizes<'a>()
     ensures { ⟦<Sizes<'a> as Form>⟧.parse ≡ parse_of sizes }
 {}

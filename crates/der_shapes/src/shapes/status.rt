@@ -239,7 +239,7 @@ impl DuplicateIsEqual for Status {
     ghost copy_is_equal = { ⟦<Status as CopyLaws>⟧.copies.laws.equal_are };
 }
 
-/// What is read as `Status` is what the page of the grammar says.
+/// What is read as `Status` is what the grammar page says.
 pub fn grammar_of_status()
     ensures { ⟦<Status as Form>⟧.parse ≡ parse_of status }
 {}

@@ -188,7 +188,7 @@ impl<'a> ContentsEq for Subtree<'a> {
 
 impl<'a> CopyIsDuplicate for Subtree<'a> {}
 
-/// What is read as `Subtree` is what the page of the grammar says.
+/// What is read as `Subtree` is what the grammar page says.
 pub fn grammar_of_subtree<'a>()
     ensures { ⟦<Subtree<'a> as Form>⟧.parse ≡ parse_of subtree }
 {}

@@ -215,7 +215,7 @@ impl<'a> DuplicateValueIsEqual for Titled<'a> {
     ghost copy_value_is_equal = { ⟦<Titled<'a> as CopyLaws>⟧.copies.laws.equal_are };
 }
 
-/// What is read as `Titled` is what the page of the grammar says.
+/// What is read as `Titled` is what the grammar page says.
 pub fn grammar_of_titled<'a>()
     ensures { ⟦<Titled<'a> as Form>⟧.parse ≡ parse_of titled }
 {}

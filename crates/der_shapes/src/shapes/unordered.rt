@@ -103,7 +103,7 @@ impl<'a> ContentsEq for Unordered<'a> {
 
 impl<'a> CopyIsDuplicate for Unordered<'a> {}
 
-/// What is read as `Unordered` is what the page of the grammar says.
+/// What is read as `Unordered` is what the grammar page says.
 pub fn grammar_of_unordered<'a>()
     ensures { ⟦<Unordered<'a> as Form>⟧.parse ≡ parse_of unordered }
 {}

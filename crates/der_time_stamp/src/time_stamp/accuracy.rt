@@ -154,7 +154,7 @@ impl ContentsEq for Accuracy {
 
 impl CopyIsDuplicate for Accuracy {}
 
-/// What is read as `Accuracy` is what the page of the grammar says.
+/// What is read as `Accuracy` is what the grammar page says.
 pub fn grammar_of_accuracy()
     ensures { ⟦<Accuracy as Form>⟧.parse ≡ parse_of accuracy }
 {}

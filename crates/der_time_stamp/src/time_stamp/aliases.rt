@@ -1,4 +1,4 @@
-//! Second names of types in PKIXTSP.
+//! Type aliases of PKIXTSP.
 //!
 //! Made by tools/asn1 from time_stamp.asn1.
 
@@ -15,7 +15,7 @@ use der_opaque::ObjectIdentifierRef;
 /// A number outside 0..255 is refused: the names alone say how wide the type is.
 pub type TimeStampReqVersion = u8;
 
-/// What is read as `TimeStampReqVersion` is what the page of the grammar says.
+/// What is read as `TimeStampReqVersion` is what the grammar page says.
 pub fn grammar_of_time_stamp_req_version()
     ensures { ⟦<TimeStampReqVersion as Form>⟧.parse ≡ parse_of time_stamp_req_version }
 {}
@@ -28,7 +28,7 @@ pub const TIME_STAMP_REQ_VERSION_V1: u8 = 1;
 /// ```
 pub type TsaPolicyId<'a> = ObjectIdentifierRef<'a, 39>;
 
-/// What is read as `TSAPolicyId` is what the page of the grammar says.
+/// What is read as `TSAPolicyId` is what the grammar page says.
 pub fn grammar_of_tsa_policy_id<'a>()
     ensures { ⟦<TsaPolicyId<'a> as Form>⟧.parse ≡ parse_of tsa_policy_id }
 {}
@@ -46,7 +46,7 @@ pub fn grammar_of_tsa_policy_id<'a>()
 /// A number outside 0..255 is refused: the names alone say how wide the type is.
 pub type PkiStatus = u8;
 
-/// What is read as `PKIStatus` is what the page of the grammar says.
+/// What is read as `PKIStatus` is what the grammar page says.
 pub fn grammar_of_pki_status()
     ensures { ⟦<PkiStatus as Form>⟧.parse ≡ parse_of pki_status }
 {}
@@ -82,33 +82,33 @@ pub const PKI_STATUS_REVOCATION_NOTIFICATION: u8 = 5;
 /// ```
 pub type PkiFailureInfo<'a> = NamedBitsRef<'a>;
 
-/// What is read as `PKIFailureInfo` is what the page of the grammar says.
+/// What is read as `PKIFailureInfo` is what the grammar page says.
 pub fn grammar_of_pki_failure_info<'a>()
     ensures { ⟦<PkiFailureInfo<'a> as Form>⟧.parse ≡ parse_of pki_failure_info }
 {}
 
-/// The place of the bit `badAlg` of `PKIFailureInfo`.
+/// The position of the bit `badAlg` of `PKIFailureInfo`.
 pub const PKI_FAILURE_INFO_BAD_ALG: usize = 0;
 
-/// The place of the bit `badRequest` of `PKIFailureInfo`.
+/// The position of the bit `badRequest` of `PKIFailureInfo`.
 pub const PKI_FAILURE_INFO_BAD_REQUEST: usize = 2;
 
-/// The place of the bit `badDataFormat` of `PKIFailureInfo`.
+/// The position of the bit `badDataFormat` of `PKIFailureInfo`.
 pub const PKI_FAILURE_INFO_BAD_DATA_FORMAT: usize = 5;
 
-/// The place of the bit `timeNotAvailable` of `PKIFailureInfo`.
+/// The position of the bit `timeNotAvailable` of `PKIFailureInfo`.
 pub const PKI_FAILURE_INFO_TIME_NOT_AVAILABLE: usize = 14;
 
-/// The place of the bit `unacceptedPolicy` of `PKIFailureInfo`.
+/// The position of the bit `unacceptedPolicy` of `PKIFailureInfo`.
 pub const PKI_FAILURE_INFO_UNACCEPTED_POLICY: usize = 15;
 
-/// The place of the bit `unacceptedExtension` of `PKIFailureInfo`.
+/// The position of the bit `unacceptedExtension` of `PKIFailureInfo`.
 pub const PKI_FAILURE_INFO_UNACCEPTED_EXTENSION: usize = 16;
 
-/// The place of the bit `addInfoNotAvailable` of `PKIFailureInfo`.
+/// The position of the bit `addInfoNotAvailable` of `PKIFailureInfo`.
 pub const PKI_FAILURE_INFO_ADD_INFO_NOT_AVAILABLE: usize = 17;
 
-/// The place of the bit `systemFailure` of `PKIFailureInfo`.
+/// The position of the bit `systemFailure` of `PKIFailureInfo`.
 pub const PKI_FAILURE_INFO_SYSTEM_FAILURE: usize = 25;
 
 /// A type that is written out within another, as `TstInfoVersion`.
@@ -116,7 +116,7 @@ pub const PKI_FAILURE_INFO_SYSTEM_FAILURE: usize = 25;
 /// A number outside 0..255 is refused: the names alone say how wide the type is.
 pub type TstInfoVersion = u8;
 
-/// What is read as `TstInfoVersion` is what the page of the grammar says.
+/// What is read as `TstInfoVersion` is what the grammar page says.
 pub fn grammar_of_tst_info_version()
     ensures { ⟦<TstInfoVersion as Form>⟧.parse ≡ parse_of tst_info_version }
 {}

@@ -142,7 +142,7 @@ impl<'a> ContentsEq for MessageImprint<'a> {
 
 impl<'a> CopyIsDuplicate for MessageImprint<'a> {}
 
-/// What is read as `MessageImprint` is what the page of the grammar says.
+/// What is read as `MessageImprint` is what the grammar page says.
 pub fn grammar_of_message_imprint<'a>()
     ensures { ⟦<MessageImprint<'a> as Form>⟧.parse ≡ parse_of message_imprint }
 {}

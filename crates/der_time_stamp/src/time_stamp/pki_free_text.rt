@@ -109,7 +109,7 @@ impl<'a> ContentsEq for PkiFreeText<'a> {
 
 impl<'a> CopyIsDuplicate for PkiFreeText<'a> {}
 
-/// What is read as `PKIFreeText` is what the page of the grammar says.
+/// What is read as `PKIFreeText` is what the grammar page says.
 pub fn grammar_of_pki_free_text<'a>()
     ensures { ⟦<PkiFreeText<'a> as Form>⟧.parse ≡ parse_of pki_free_text }
 {}

@@ -159,7 +159,7 @@ impl<'a> ContentsEq for PkiStatusInfo<'a> {
 
 impl<'a> CopyIsDuplicate for PkiStatusInfo<'a> {}
 
-/// What is read as `PKIStatusInfo` is what the page of the grammar says.
+/// What is read as `PKIStatusInfo` is what the grammar page says.
 pub fn grammar_of_pki_status_info<'a>()
     ensures { ⟦<PkiStatusInfo<'a> as Form>⟧.parse ≡ parse_of pki_status_info }
 {}

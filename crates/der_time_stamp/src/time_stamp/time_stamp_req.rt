@@ -210,7 +210,7 @@ impl<'a> ContentsEq for TimeStampReq<'a> {
 
 impl<'a> CopyIsDuplicate for TimeStampReq<'a> {}
 
-/// What is read as `TimeStampReq` is what the page of the grammar says.
+/// What is read as `TimeStampReq` is what the grammar page says.
 pub fn grammar_of_time_stamp_req<'a>()
     ensures { ⟦<TimeStampReq<'a> as Form>⟧.parse ≡ parse_of time_stamp_req }
 {}

@@ -146,7 +146,7 @@ impl<'a> ContentsEq for TimeStampResp<'a> {
 
 impl<'a> CopyIsDuplicate for TimeStampResp<'a> {}
 
-/// What is read as `TimeStampResp` is what the page of the grammar says.
+/// What is read as `TimeStampResp` is what the grammar page says.
 pub fn grammar_of_time_stamp_resp<'a>()
     ensures { ⟦<TimeStampResp<'a> as Form>⟧.parse ≡ parse_of time_stamp_resp }
 {}

@@ -138,7 +138,7 @@ impl<'a> ContentsEq for TimeStampToken<'a> {
 
 impl<'a> CopyIsDuplicate for TimeStampToken<'a> {}
 
-/// What is read as `TimeStampToken` is what the page of the grammar says.
+/// What is read as `TimeStampToken` is what the grammar page says.
 pub fn grammar_of_time_stamp_token<'a>()
     ensures { ⟦<TimeStampToken<'a> as Form>⟧.parse ≡ parse_of time_stamp_token }
 {}

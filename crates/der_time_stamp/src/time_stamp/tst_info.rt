@@ -262,7 +262,7 @@ impl<'a> ContentsEq for TstInfo<'a> {
 
 impl<'a> CopyIsDuplicate for TstInfo<'a> {}
 
-/// What is read as `TSTInfo` is what the page of the grammar says.
+/// What is read as `TSTInfo` is what the grammar page says.
 pub fn grammar_of_tst_info<'a>()
     ensures { ⟦<TstInfo<'a> as Form>⟧.parse ≡ parse_of tst_info }
 {}
