@@ -302,7 +302,7 @@ class NamedNumbers(unittest.TestCase):
             "pub const VERSION_V1: u8 = 0;",
             "pub const FAULT_LEAST: i16 = -2;",
             "pub const FAULT_MOST: i16 = 300;",
-            "/// The place of the bit `ninth` of `Usage`.\npub const USAGE_NINTH: usize = 8;",
+            "/// The position of the bit `ninth` of `Usage`.\npub const USAGE_NINTH: usize = 8;",
             "pub const A_VERSION_MANY: u8 = 1;",
         ):
             self.assertIn(line, text)
