@@ -79,7 +79,7 @@ class ChangedStructs(TreeTest):
 
     def test_another_access(self) -> None:
         self.change(STRUCTS, "        sid field a CHOICE", "        sid optional a CHOICE")
-        self.assertEqual(self.files_told(), {PYTHON, *self.CMS})
+        self.assertEqual(self.files_told(), {HEADER, PYTHON, *self.CMS})
         self.assertEqual(self.run_tool(), (0, []))
 
     def test_another_file(self) -> None:
