@@ -23,12 +23,17 @@ from .subsets import unconstrained
 from .defaults import default_of, marker_of
 
 
+LONG = 8  # the components of a SEQUENCE whose lists need no name
+
+
 def fields_of(context: Context, type_: FieldsType) -> tuple[tuple[Field, ...], tuple[Field, ...]]:
     """The fields, distinguished by their tags: in the order of their encodings, and as they are written."""
     placed = components_of(context.state.library, context.env, type_)
     check_names([(part.place, part.name) for part, _ in placed], "name")
     names = spelled(context, [part for part, _ in placed], field)
     placed = [one for one in placed if not may_be_absent(one[0]) or not is_left_out(context.within(one[1]), one[0])]
+    # (a name makes a long SEQUENCE provable: the prover looks into a struct once, and into a list at each bound)
+    context = replace(context, names_lists=len(placed) > LONG)
     fields = tuple(one_field(context.within(env), part, names[part.name]) for part, env in placed)
     check_fields(fields)
     if not type_.is_set:

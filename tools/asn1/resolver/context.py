@@ -81,6 +81,7 @@ class Context:
     notes: Notes
     remarks: list[str]  # what the documentation of the definition says of it
     checks: bool = True  # whether constraints are checked here
+    names_lists: bool = False  # whether a list of SEQUENCEs, SETs or CHOICEs gets a name if it is written out here
 
     def within(self, env: Env) -> "Context":
         return replace(self, env=env)

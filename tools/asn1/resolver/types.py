@@ -54,7 +54,7 @@ def resolve_type(context: Context, type_: Type, constraints: Constraints = ()) -
     kept_octets = kept_sequence(context, type_)
     if kept_octets is not None:
         return kept_octets
-    if isinstance(type_, ListType):
+    if isinstance(type_, ListType) and not (context.names_lists and has_structs(context, type_)):
         return listed(context, type_, constraints)
     if isinstance(type_, SimpleType):
         return leaves.simple(context, type_, constraints)
@@ -81,7 +81,7 @@ def written_out(context: Context, type_: Type, constraints: Constraints) -> Defi
     """A type that is written out where it stands, which gets a name of its own."""
     name = context.notes.argument("type") or context.name_within(context.inner)
     remarks: list[str] = []
-    inner = replace(context, inner=name, remarks=remarks)
+    inner = replace(context, inner=name, remarks=remarks, names_lists=False)
     found = definitions.define(inner, name, "", type_, constraints)
     context.state.add(found)
     return found
@@ -149,6 +149,11 @@ def listed(context: Context, type_: ListType, constraints: Constraints) -> Liste
     item = resolve_type(context.item(), type_.item)
     is_never_empty, allowed = items_allowed(context, type_, constraints)
     return Listed(item, type_.is_set, is_never_empty, is_any_order(context, type_), allowed)
+
+
+def has_structs(context: Context, type_: ListType) -> bool:
+    """Whether the items of a list are SEQUENCEs, SETs or CHOICEs."""
+    return isinstance(base_of(context.state.library, context.env, type_.item)[1], (FieldsType, ChoiceType))
 
 
 def is_any_order(context: Context, type_: ListType) -> bool:

@@ -110,6 +110,32 @@ class Holders(unittest.TestCase):
         self.assertIn("Fields1<Explicit<BmpString, 3>>;", files["src/test/s.rt"])
 
 
+class Lists(unittest.TestCase):
+    """A list that is written out in a long SEQUENCE is a struct of its own if its items are structs or enums."""
+
+    def fields(self, count: int, last: str) -> str:
+        body = ", ".join(f"n{number} [{number}] INTEGER (0..255)" for number in range(1, count))
+        return f"S ::= SEQUENCE {{ {body}, last [{count}] {last} }} I ::= SEQUENCE {{ x NULL }} C ::= CHOICE {{ x NULL, y BOOLEAN }}"
+
+    def test_a_long_sequence_names_its_lists(self) -> None:
+        for last in ("SEQUENCE OF I", "SET OF I", "SEQUENCE OF C", "SEQUENCE SIZE (1..MAX) OF [0] I", "SEQUENCE OF SEQUENCE { x NULL }"):
+            with self.subTest(last=last):
+                self.assertIn("src/test/s_last.rt", written(module_of(self.fields(9, last))))
+
+    def test_a_short_one_does_not(self) -> None:
+        self.assertNotIn("src/test/s_last.rt", written(module_of(self.fields(8, "SEQUENCE OF I"))))
+
+    def test_a_list_of_values_of_the_library_has_no_name(self) -> None:
+        for last in ("SEQUENCE OF INTEGER (0..255)", "SET OF NULL", "SEQUENCE OF SEQUENCE OF NULL"):
+            with self.subTest(last=last):
+                self.assertNotIn("src/test/s_last.rt", written(module_of(self.fields(9, last))))
+
+    def test_what_is_written_within_does_not_name_its_own(self) -> None:
+        files = written(module_of(self.fields(9, "SEQUENCE OF SEQUENCE { x SEQUENCE OF I }")))
+        self.assertEqual([name for name in files if "last" in name and name.startswith("src/")],
+                         ["src/test/s_last.rt", "src/test/s_last_item.rt"])
+
+
 class Pieces(unittest.TestCase):
     def test_places_of_fields(self) -> None:
         self.assertEqual(places(2), [".list.first", ".list.rest.first"])
