@@ -136,6 +136,32 @@ class Lists(unittest.TestCase):
                          ["src/test/s_last.rt", "src/test/s_last_item.rt"])
 
 
+class OctetsProofs(unittest.TestCase):
+    """The law on the octets of a SEQUENCE has a proof if seven components or more are OPTIONAL."""
+
+    PROOF = "proofs/test/s/octets_of_s/Answers.antt"
+
+    def proof(self, count: int, last: str = "NULL") -> str | None:
+        body = ", ".join(f"n{number} [{number}] INTEGER (0..255) OPTIONAL" for number in range(1, count))
+        return written(module_of(f"S ::= SEQUENCE {{ {body}, last {last} OPTIONAL, all BOOLEAN }}")).get(self.PROOF)
+
+    def test_few(self) -> None:
+        self.assertIsNone(self.proof(6))
+
+    def test_many(self) -> None:
+        lines = (self.proof(7) or "").split("returns c v =\n")[1].splitlines()
+        self.assertEqual(lines[0], "    before _ _ _ _ (present _ _ (λ x. x.fields.first) (λ x. refl) v.fields.list.first) (")
+        self.assertEqual(lines[6:], ["    before _ _ _ _ (untagged _ v.fields.list.rest.rest.rest.rest.rest.rest.first) (",
+                                     "    before _ _ _ _ refl (", "    refl))))))))"])
+
+    def test_the_way_to_a_value_after_an_implicit_tag(self) -> None:
+        self.assertIn("(present _ _ (λ x. x.value) (λ x. refl) v.fields", self.proof(7, "[9] IMPLICIT NULL") or "")
+
+    def test_a_set_has_none(self) -> None:
+        body = ", ".join(f"n{number} [{number}] NULL OPTIONAL" for number in range(1, 9))
+        self.assertNotIn(self.PROOF, written(module_of(f"S ::= SET {{ {body} }}")))
+
+
 class Pieces(unittest.TestCase):
     def test_places_of_fields(self) -> None:
         self.assertEqual(places(2), [".list.first", ".list.rest.first"])

@@ -13,6 +13,7 @@ from .defaults import markers_of, write_defaults
 from .grammar import GrammarPage
 from .lists import write_list
 from .module_laws import write_laws
+from .octets_proofs import write_octets_proof
 from .pages import write_list_page, write_struct_page
 from .plan import DEFAULT_LAWS, DEFAULTS, Plan, is_apart
 from .structs import write_struct
@@ -78,6 +79,8 @@ def write_module(plan: Plan, module: ResolvedModule) -> dict[str, str]:
             files[f"specs/{target.page}/{definition.rust}.antt"] = page
         if isinstance(definition, Choice):
             files.update(write_order_proof(plan, definition))
+        if isinstance(definition, Struct):
+            files.update(write_octets_proof(plan, definition))
     aliases = [found for found in module.definitions if is_apart(found)]
     if aliases:
         files[f"src/{target.module}/aliases.rt"] = write_aliases(plan, target, aliases, module.name)
