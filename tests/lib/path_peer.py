@@ -88,6 +88,12 @@ def map_in_last(state, certificate, wrap_up=path_oracle.wrap_up):
     return wrap_up(state, certificate)
 
 
+def map_beside_policies(state, certificate, process=path_oracle.process_mappings):
+    """policyMappings of a certificate that has certificatePolicies."""
+    if certificate.policies is not None:
+        process(state, certificate)
+
+
 def end_of_text(constraint, name):
     """A dNSName that ends with the constraint, at a period of either."""
     constraint, name = constraint.lower(), name.lower()
@@ -158,6 +164,7 @@ READINGS = {
     "4.1.2.5: the last second of a validity is not in it": lambda: instead("is_current", last_second_is_late),
     "6.1.4 (k): a certificate of version 1 or 2 with basicConstraints may issue others": lambda: instead("is_issuer", any_version),
     "6.1.4 (a), (b): policyMappings of the last certificate are processed": lambda: instead("wrap_up", map_in_last),
+    "6.1.4 (a): policyMappings without certificatePolicies are not read": lambda: instead("process_mappings", map_beside_policies),
     "6.1.5 (a): a last certificate that is self-issued does not count": lambda: instead("count_last", count_no_self_issued),
     "4.2.1.10: dNSNames are compared as text, with empty labels": lambda: octets_of_kind(path_names.HOST, end_of_text),
     "4.2.1.10: a mask of iPAddress has any bits": lambda: octets_of_kind(path_names.ADDRESS, masked),
