@@ -83,16 +83,35 @@ CHECKED(general_name, uint32_t)
 CHECKED(check_rfc5280, uint32_t)
 CHECKED(check_rfc5280_list, uint32_t)
 
-uint32_t proved_names_match(const uint8_t *first, size_t first_len, const uint8_t *second, size_t second_len, uint32_t *out,
-                            der_fault *fault);
-uint32_t der_names_match(const uint8_t *first, size_t first_len, const uint8_t *second, size_t second_len, uint32_t *out,
-                         der_fault *fault)
+#define CHECKED_PAIR(name)                                                                                              \
+    uint32_t proved_##name(const uint8_t *first, size_t first_len, const uint8_t *second, size_t second_len,            \
+                           uint32_t *out, der_fault *fault);                                                            \
+    uint32_t der_##name(const uint8_t *first, size_t first_len, const uint8_t *second, size_t second_len, uint32_t *out, \
+                        der_fault *fault)                                                                               \
+    {                                                                                                                   \
+        der_fault unasked;                                                                                              \
+        fault = asked(fault, &unasked);                                                                                 \
+        if (is_null(first, first_len) || is_null(second, second_len))                                                   \
+            return refuse(DER_NULL_POINTER, fault);                                                                     \
+        return proved_##name(first, first_len, second, second_len, out, fault);                                         \
+    }
+
+CHECKED_PAIR(names_match)
+CHECKED_PAIR(issuer_and_serial_number_is)
+
+uint32_t proved_cert_id_is(const uint8_t *octets, size_t len, const uint8_t *name_hash, size_t name_len,
+                           const uint8_t *key_hash, size_t key_len, const uint8_t *serial, size_t serial_len, uint32_t *out,
+                           der_fault *fault);
+uint32_t der_cert_id_is(const uint8_t *octets, size_t len, const der_cert_id_hashes *hashes, const uint8_t *serial,
+                        size_t serial_len, uint32_t *out, der_fault *fault)
 {
     der_fault unasked;
     fault = asked(fault, &unasked);
-    if (is_null(first, first_len) || is_null(second, second_len))
+    if (is_null(octets, len) || is_null(serial, serial_len) || is_null(hashes->name, hashes->len)
+        || is_null(hashes->key, hashes->len))
         return refuse(DER_NULL_POINTER, fault);
-    return proved_names_match(first, first_len, second, second_len, out, fault);
+    return proved_cert_id_is(octets, len, hashes->name, hashes->len, hashes->key, hashes->len, serial, serial_len, out,
+                             fault);
 }
 
 /* A null pointer has no octets for the calls that return no number of a fault. */

@@ -37,46 +37,6 @@ uint32_t der_find_revoked(const uint8_t *octets, size_t len, const uint8_t *seri
     return 0;
 }
 
-uint32_t der_cert_id_is(const uint8_t *octets, size_t len, const der_cert_id_hashes *hashes, const uint8_t *serial,
-                        size_t serial_len, uint32_t *out, der_fault *fault)
-{
-    der_fault unasked;
-    der_cert_id_at at;
-    uint32_t result;
-    fault = asked(fault, &unasked);
-    if (is_null(serial, serial_len))
-        return refuse(DER_NULL_POINTER, fault);
-    result = der_cert_id(octets, len, &at, fault);
-    if (result != 0)
-        return result;
-    *out = are(octets, len, &at.issuer_name_hash, hashes->name, hashes->len)
-           && are(octets, len, &at.issuer_key_hash, hashes->key, hashes->len)
-           && are(octets, len, &at.serial_number, serial, serial_len);
-    return 0;
-}
-
-uint32_t der_issuer_and_serial_number_is(const uint8_t *octets, size_t len, const uint8_t *certificate, size_t certificate_len,
-                                         uint32_t *out, der_fault *fault)
-{
-    der_fault unasked;
-    der_issuer_and_serial_number_at named;
-    der_certificate_at of;
-    der_place serial;
-    uint32_t result, matches = 0;
-    fault = asked(fault, &unasked);
-    result = der_issuer_and_serial_number(octets, len, &named, fault);
-    if (result == 0)
-        result = der_certificate(certificate, certificate_len, &of, fault);
-    if (result == 0)
-        result = der_names_match(octets + named.issuer.offset, named.issuer.length, certificate + of.issuer.offset,
-                                 of.issuer.length, &matches, fault);
-    if (result != 0)
-        return result;
-    serial = der_contents(certificate, certificate_len, &of.serial_number);
-    *out = matches != 0 && are(octets, len, &named.serial_number, certificate + serial.offset, serial.length);
-    return 0;
-}
-
 uint32_t der_signed_attributes(const uint8_t *octets, size_t len, const der_place *signed_attrs, uint8_t *buffer,
                                size_t buffer_len, size_t *written, der_fault *fault)
 {

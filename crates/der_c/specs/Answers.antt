@@ -8,6 +8,8 @@ use Rattle.der_tlv.specs.ErrorNumber.{error_number}
 use Rattle.der_elem.specs.Accepting.{Fits}
 use Rattle.der_elem.specs.Decoding.{AllRead, Faults, NotAllRead, RanOut}
 use Rattle.der_elem.specs.declared.form.Form as form
+use Rattle.der_places.specs.Layout.{LaidOut, Layout}
+use Rattle.der_places.specs.declared.place.Place.{Place}
 use Rattle.der_c.specs.declared.fault.Fault.{Fault}
 
 -- 0: no error is written
@@ -54,25 +56,30 @@ pub record NotGiven {T S : Type 0} (F : form.Ghosts T) (octets : List ℕ) (old 
 abbrev pub Answers : {T S : Type 0} → form.Ghosts T → List ℕ → (T → S → Type 0) → S → S → Fault → Fault → ℕ → Type 0
 Answers F octets shows old new old_fault fault answer = (NoFault old_fault fault answer × Given F octets shows new) ⊎ NotGiven F octets old new fault answer
 
+-- the results of a call that reads all octets as a message, and writes the byte ranges of its fields, which lie one after another
+abbrev pub AnswersPlaces : {T P : Type 0} → form.Ghosts T → (T → Layout) → (P → List Place) → List ℕ → P → P → Fault → Fault → ℕ → Type 0
+AnswersPlaces F layout listed octets old new old_fault fault answer =
+    Answers F octets (λ v at. LaidOut (layout v) 0 (listed at) octets) old new old_fault fault answer
+
 -- all octets are read as a value
 pub record IsRead {T : Type 0} (F : form.Ghosts T) (octets : List ℕ) : Type 0 where
   pub value : T
   pub read : AllRead F octets value
 
 -- all octets of both inputs are read as values, and `shows` holds for both
-pub record GivenPair {T S : Type 0} (F : form.Ghosts T) (first second : List ℕ) (shows : T → T → S → Type 0) (new : S) : Type 0 where
+pub record GivenPair {T U S : Type 0} (F : form.Ghosts T) (G : form.Ghosts U) (first second : List ℕ) (shows : T → U → S → Type 0) (new : S) : Type 0 where
   pub one : T
-  pub other : T
+  pub other : U
   pub read_one : AllRead F first one
-  pub read_other : AllRead F second other
+  pub read_other : AllRead G second other
   pub shown : shows one other new
 
 -- the results of a call that reads all octets of two inputs: it returns an error of the second only if the first is read
-abbrev pub AnswersPair : {T S : Type 0} → form.Ghosts T → List ℕ → List ℕ → (T → T → S → Type 0) → S → S → Fault → Fault → ℕ → Type 0
-AnswersPair F first second shows old new old_fault fault answer =
-    (NoFault old_fault fault answer × GivenPair F first second shows new)
+abbrev pub AnswersPair : {T U S : Type 0} → form.Ghosts T → form.Ghosts U → List ℕ → List ℕ → (T → U → S → Type 0) → S → S → Fault → Fault → ℕ → Type 0
+AnswersPair F G first second shows old new old_fault fault answer =
+    (NoFault old_fault fault answer × GivenPair F G first second shows new)
     ⊎ (NotGiven F first old new fault answer
-    ⊎ (IsRead F first × NotGiven F second old new fault answer))
+    ⊎ (IsRead F first × NotGiven G second old new fault answer))
 
 -- the first `taken` octets are read as a value
 pub record FrontRead {T : Type 0} (F : form.Ghosts T) (octets : List ℕ) (value : T) (taken : ℕ) : Type 0 where

@@ -1,5 +1,6 @@
 pub mod Answers
 pub mod Bits
+pub mod Comparing
 pub mod GeneralNames
 pub mod Names
 pub mod Rooms

@@ -1,7 +1,6 @@
 //! Algorithms and their parameters.
 
-ghost use Rattle.der_places.specs.Layout.{LaidOut};
-ghost use Rattle.der_c.specs.Answers.{Answers};
+ghost use Rattle.der_c.specs.Answers.{AnswersPlaces};
 
 use crate::fault::Fault;
 use crate::message::read_message;
@@ -25,9 +24,8 @@ pub extern "C" fn der_algorithm_identifier<'a>(
     out: &mut AlgorithmIdentifierPlaces,
     fault: &mut Fault,
 ) -> u32
-    ensures { Answers ⟦<AlgorithmIdentifier<'a> as Form>⟧ octets.now
-        (λ v at. LaidOut (⟦<AlgorithmIdentifier<'a> as Placed>⟧.layout v) 0 (⟦<AlgorithmIdentifier<'a> as Placed>⟧.listed at) octets.now)
-        out.old out.new fault.old fault.new result }
+    ensures { AnswersPlaces ⟦<AlgorithmIdentifier<'a> as Form>⟧ ⟦<AlgorithmIdentifier<'a> as Placed>⟧.layout ⟦<AlgorithmIdentifier<'a> as Placed>⟧.listed
+        octets.now out.old out.new fault.old fault.new result }
 {
     read_message::<AlgorithmIdentifierPlaces, AlgorithmIdentifier<'a>>(alloc, octets, out, fault)
 }
@@ -43,9 +41,8 @@ pub extern "C" fn der_rsassa_pss_params<'a>(
     out: &mut RsassaPssParamsPlaces,
     fault: &mut Fault,
 ) -> u32
-    ensures { Answers ⟦<RsassaPssParams<'a> as Form>⟧ octets.now
-        (λ v at. LaidOut (⟦<RsassaPssParams<'a> as Placed>⟧.layout v) 0 (⟦<RsassaPssParams<'a> as Placed>⟧.listed at) octets.now)
-        out.old out.new fault.old fault.new result }
+    ensures { AnswersPlaces ⟦<RsassaPssParams<'a> as Form>⟧ ⟦<RsassaPssParams<'a> as Placed>⟧.layout ⟦<RsassaPssParams<'a> as Placed>⟧.listed
+        octets.now out.old out.new fault.old fault.new result }
 {
     read_message::<RsassaPssParamsPlaces, RsassaPssParams<'a>>(alloc, octets, out, fault)
 }
@@ -61,9 +58,8 @@ pub extern "C" fn der_ecdsa_sig_value<'a>(
     out: &mut EcdsaSigValuePlaces,
     fault: &mut Fault,
 ) -> u32
-    ensures { Answers ⟦<EcdsaSigValue<'a> as Form>⟧ octets.now
-        (λ v at. LaidOut (⟦<EcdsaSigValue<'a> as Placed>⟧.layout v) 0 (⟦<EcdsaSigValue<'a> as Placed>⟧.listed at) octets.now)
-        out.old out.new fault.old fault.new result }
+    ensures { AnswersPlaces ⟦<EcdsaSigValue<'a> as Form>⟧ ⟦<EcdsaSigValue<'a> as Placed>⟧.layout ⟦<EcdsaSigValue<'a> as Placed>⟧.listed
+        octets.now out.old out.new fault.old fault.new result }
 {
     read_message::<EcdsaSigValuePlaces, EcdsaSigValue<'a>>(alloc, octets, out, fault)
 }
@@ -78,9 +74,8 @@ pub extern "C" fn der_pbes2_params<'a>(
     out: &mut Pbes2ParamsPlaces,
     fault: &mut Fault,
 ) -> u32
-    ensures { Answers ⟦<Pbes2Params<'a> as Form>⟧ octets.now
-        (λ v at. LaidOut (⟦<Pbes2Params<'a> as Placed>⟧.layout v) 0 (⟦<Pbes2Params<'a> as Placed>⟧.listed at) octets.now)
-        out.old out.new fault.old fault.new result }
+    ensures { AnswersPlaces ⟦<Pbes2Params<'a> as Form>⟧ ⟦<Pbes2Params<'a> as Placed>⟧.layout ⟦<Pbes2Params<'a> as Placed>⟧.listed
+        octets.now out.old out.new fault.old fault.new result }
 {
     read_message::<Pbes2ParamsPlaces, Pbes2Params<'a>>(alloc, octets, out, fault)
 }
@@ -95,9 +90,8 @@ pub extern "C" fn der_pbkdf2_params<'a>(
     out: &mut Pbkdf2ParamsPlaces,
     fault: &mut Fault,
 ) -> u32
-    ensures { Answers ⟦<Pbkdf2Params<'a> as Form>⟧ octets.now
-        (λ v at. LaidOut (⟦<Pbkdf2Params<'a> as Placed>⟧.layout v) 0 (⟦<Pbkdf2Params<'a> as Placed>⟧.listed at) octets.now)
-        out.old out.new fault.old fault.new result }
+    ensures { AnswersPlaces ⟦<Pbkdf2Params<'a> as Form>⟧ ⟦<Pbkdf2Params<'a> as Placed>⟧.layout ⟦<Pbkdf2Params<'a> as Placed>⟧.listed
+        octets.now out.old out.new fault.old fault.new result }
 {
     read_message::<Pbkdf2ParamsPlaces, Pbkdf2Params<'a>>(alloc, octets, out, fault)
 }

@@ -1,7 +1,6 @@
 //! Enveloped and encrypted messages, and identifiers of certificates in messages.
 
-ghost use Rattle.der_places.specs.Layout.{LaidOut};
-ghost use Rattle.der_c.specs.Answers.{Answers};
+ghost use Rattle.der_c.specs.Answers.{AnswersPlaces};
 
 use crate::fault::Fault;
 use crate::message::read_message;
@@ -28,9 +27,8 @@ pub extern "C" fn der_issuer_and_serial_number<'a>(
     out: &mut IssuerAndSerialNumberPlaces,
     fault: &mut Fault,
 ) -> u32
-    ensures { Answers ⟦<IssuerAndSerialNumber<'a> as Form>⟧ octets.now
-        (λ v at. LaidOut (⟦<IssuerAndSerialNumber<'a> as Placed>⟧.layout v) 0 (⟦<IssuerAndSerialNumber<'a> as Placed>⟧.listed at) octets.now)
-        out.old out.new fault.old fault.new result }
+    ensures { AnswersPlaces ⟦<IssuerAndSerialNumber<'a> as Form>⟧ ⟦<IssuerAndSerialNumber<'a> as Placed>⟧.layout ⟦<IssuerAndSerialNumber<'a> as Placed>⟧.listed
+        octets.now out.old out.new fault.old fault.new result }
 {
     read_message::<IssuerAndSerialNumberPlaces, IssuerAndSerialNumber<'a>>(
         alloc, octets, out, fault,
@@ -47,9 +45,8 @@ pub extern "C" fn der_enveloped_data<'a>(
     out: &mut EnvelopedDataPlaces,
     fault: &mut Fault,
 ) -> u32
-    ensures { Answers ⟦<EnvelopedData<'a> as Form>⟧ octets.now
-        (λ v at. LaidOut (⟦<EnvelopedData<'a> as Placed>⟧.layout v) 0 (⟦<EnvelopedData<'a> as Placed>⟧.listed at) octets.now)
-        out.old out.new fault.old fault.new result }
+    ensures { AnswersPlaces ⟦<EnvelopedData<'a> as Form>⟧ ⟦<EnvelopedData<'a> as Placed>⟧.layout ⟦<EnvelopedData<'a> as Placed>⟧.listed
+        octets.now out.old out.new fault.old fault.new result }
 {
     read_message::<EnvelopedDataPlaces, EnvelopedData<'a>>(alloc, octets, out, fault)
 }
@@ -65,9 +62,8 @@ pub extern "C" fn der_encrypted_content_info<'a>(
     out: &mut EncryptedContentInfoPlaces,
     fault: &mut Fault,
 ) -> u32
-    ensures { Answers ⟦<EncryptedContentInfo<'a> as Form>⟧ octets.now
-        (λ v at. LaidOut (⟦<EncryptedContentInfo<'a> as Placed>⟧.layout v) 0 (⟦<EncryptedContentInfo<'a> as Placed>⟧.listed at) octets.now)
-        out.old out.new fault.old fault.new result }
+    ensures { AnswersPlaces ⟦<EncryptedContentInfo<'a> as Form>⟧ ⟦<EncryptedContentInfo<'a> as Placed>⟧.layout ⟦<EncryptedContentInfo<'a> as Placed>⟧.listed
+        octets.now out.old out.new fault.old fault.new result }
 {
     read_message::<EncryptedContentInfoPlaces, EncryptedContentInfo<'a>>(alloc, octets, out, fault)
 }
@@ -83,9 +79,8 @@ pub extern "C" fn der_key_trans_recipient_info<'a>(
     out: &mut KeyTransRecipientInfoPlaces,
     fault: &mut Fault,
 ) -> u32
-    ensures { Answers ⟦<KeyTransRecipientInfo<'a> as Form>⟧ octets.now
-        (λ v at. LaidOut (⟦<KeyTransRecipientInfo<'a> as Placed>⟧.layout v) 0 (⟦<KeyTransRecipientInfo<'a> as Placed>⟧.listed at) octets.now)
-        out.old out.new fault.old fault.new result }
+    ensures { AnswersPlaces ⟦<KeyTransRecipientInfo<'a> as Form>⟧ ⟦<KeyTransRecipientInfo<'a> as Placed>⟧.layout ⟦<KeyTransRecipientInfo<'a> as Placed>⟧.listed
+        octets.now out.old out.new fault.old fault.new result }
 {
     read_message::<KeyTransRecipientInfoPlaces, KeyTransRecipientInfo<'a>>(
         alloc, octets, out, fault,
@@ -103,9 +98,8 @@ pub extern "C" fn der_encrypted_data<'a>(
     out: &mut EncryptedDataPlaces,
     fault: &mut Fault,
 ) -> u32
-    ensures { Answers ⟦<EncryptedData<'a> as Form>⟧ octets.now
-        (λ v at. LaidOut (⟦<EncryptedData<'a> as Placed>⟧.layout v) 0 (⟦<EncryptedData<'a> as Placed>⟧.listed at) octets.now)
-        out.old out.new fault.old fault.new result }
+    ensures { AnswersPlaces ⟦<EncryptedData<'a> as Form>⟧ ⟦<EncryptedData<'a> as Placed>⟧.layout ⟦<EncryptedData<'a> as Placed>⟧.listed
+        octets.now out.old out.new fault.old fault.new result }
 {
     read_message::<EncryptedDataPlaces, EncryptedData<'a>>(alloc, octets, out, fault)
 }
@@ -121,9 +115,8 @@ pub extern "C" fn der_signing_certificate_v2<'a>(
     out: &mut SigningCertificateV2Places,
     fault: &mut Fault,
 ) -> u32
-    ensures { Answers ⟦<SigningCertificateV2<'a> as Form>⟧ octets.now
-        (λ v at. LaidOut (⟦<SigningCertificateV2<'a> as Placed>⟧.layout v) 0 (⟦<SigningCertificateV2<'a> as Placed>⟧.listed at) octets.now)
-        out.old out.new fault.old fault.new result }
+    ensures { AnswersPlaces ⟦<SigningCertificateV2<'a> as Form>⟧ ⟦<SigningCertificateV2<'a> as Placed>⟧.layout ⟦<SigningCertificateV2<'a> as Placed>⟧.listed
+        octets.now out.old out.new fault.old fault.new result }
 {
     read_message::<SigningCertificateV2Places, SigningCertificateV2<'a>>(alloc, octets, out, fault)
 }
@@ -139,9 +132,8 @@ pub extern "C" fn der_ess_cert_idv2<'a>(
     out: &mut EssCertIdv2Places,
     fault: &mut Fault,
 ) -> u32
-    ensures { Answers ⟦<EssCertIdv2<'a> as Form>⟧ octets.now
-        (λ v at. LaidOut (⟦<EssCertIdv2<'a> as Placed>⟧.layout v) 0 (⟦<EssCertIdv2<'a> as Placed>⟧.listed at) octets.now)
-        out.old out.new fault.old fault.new result }
+    ensures { AnswersPlaces ⟦<EssCertIdv2<'a> as Form>⟧ ⟦<EssCertIdv2<'a> as Placed>⟧.layout ⟦<EssCertIdv2<'a> as Placed>⟧.listed
+        octets.now out.old out.new fault.old fault.new result }
 {
     read_message::<EssCertIdv2Places, EssCertIdv2<'a>>(alloc, octets, out, fault)
 }

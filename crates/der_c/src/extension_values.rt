@@ -1,7 +1,6 @@
 //! The values of extensions: what the contents octets of `extnValue` encode.
 
-ghost use Rattle.der_places.specs.Layout.{LaidOut};
-ghost use Rattle.der_c.specs.Answers.{Answers};
+ghost use Rattle.der_c.specs.Answers.{AnswersPlaces};
 
 use crate::fault::Fault;
 use crate::message::read_message;
@@ -31,9 +30,8 @@ pub extern "C" fn der_authority_key_identifier<'a>(
     out: &mut AuthorityKeyIdentifierPlaces,
     fault: &mut Fault,
 ) -> u32
-    ensures { Answers ⟦<AuthorityKeyIdentifier<'a> as Form>⟧ octets.now
-        (λ v at. LaidOut (⟦<AuthorityKeyIdentifier<'a> as Placed>⟧.layout v) 0 (⟦<AuthorityKeyIdentifier<'a> as Placed>⟧.listed at) octets.now)
-        out.old out.new fault.old fault.new result }
+    ensures { AnswersPlaces ⟦<AuthorityKeyIdentifier<'a> as Form>⟧ ⟦<AuthorityKeyIdentifier<'a> as Placed>⟧.layout ⟦<AuthorityKeyIdentifier<'a> as Placed>⟧.listed
+        octets.now out.old out.new fault.old fault.new result }
 {
     read_message::<AuthorityKeyIdentifierPlaces, AuthorityKeyIdentifier<'a>>(
         alloc, octets, out, fault,
@@ -51,9 +49,8 @@ pub extern "C" fn der_policy_information<'a>(
     out: &mut PolicyInformationPlaces,
     fault: &mut Fault,
 ) -> u32
-    ensures { Answers ⟦<PolicyInformation<'a> as Form>⟧ octets.now
-        (λ v at. LaidOut (⟦<PolicyInformation<'a> as Placed>⟧.layout v) 0 (⟦<PolicyInformation<'a> as Placed>⟧.listed at) octets.now)
-        out.old out.new fault.old fault.new result }
+    ensures { AnswersPlaces ⟦<PolicyInformation<'a> as Form>⟧ ⟦<PolicyInformation<'a> as Placed>⟧.layout ⟦<PolicyInformation<'a> as Placed>⟧.listed
+        octets.now out.old out.new fault.old fault.new result }
 {
     read_message::<PolicyInformationPlaces, PolicyInformation<'a>>(alloc, octets, out, fault)
 }
@@ -69,9 +66,8 @@ pub extern "C" fn der_policy_qualifier_info<'a>(
     out: &mut PolicyQualifierInfoPlaces,
     fault: &mut Fault,
 ) -> u32
-    ensures { Answers ⟦<PolicyQualifierInfo<'a> as Form>⟧ octets.now
-        (λ v at. LaidOut (⟦<PolicyQualifierInfo<'a> as Placed>⟧.layout v) 0 (⟦<PolicyQualifierInfo<'a> as Placed>⟧.listed at) octets.now)
-        out.old out.new fault.old fault.new result }
+    ensures { AnswersPlaces ⟦<PolicyQualifierInfo<'a> as Form>⟧ ⟦<PolicyQualifierInfo<'a> as Placed>⟧.layout ⟦<PolicyQualifierInfo<'a> as Placed>⟧.listed
+        octets.now out.old out.new fault.old fault.new result }
 {
     read_message::<PolicyQualifierInfoPlaces, PolicyQualifierInfo<'a>>(alloc, octets, out, fault)
 }
@@ -87,9 +83,8 @@ pub extern "C" fn der_policy_mapping<'a>(
     out: &mut PolicyMappingPlaces,
     fault: &mut Fault,
 ) -> u32
-    ensures { Answers ⟦<PolicyMapping<'a> as Form>⟧ octets.now
-        (λ v at. LaidOut (⟦<PolicyMapping<'a> as Placed>⟧.layout v) 0 (⟦<PolicyMapping<'a> as Placed>⟧.listed at) octets.now)
-        out.old out.new fault.old fault.new result }
+    ensures { AnswersPlaces ⟦<PolicyMapping<'a> as Form>⟧ ⟦<PolicyMapping<'a> as Placed>⟧.layout ⟦<PolicyMapping<'a> as Placed>⟧.listed
+        octets.now out.old out.new fault.old fault.new result }
 {
     read_message::<PolicyMappingPlaces, PolicyMapping<'a>>(alloc, octets, out, fault)
 }
@@ -105,9 +100,8 @@ pub extern "C" fn der_basic_constraints<'a>(
     out: &mut BasicConstraintsPlaces,
     fault: &mut Fault,
 ) -> u32
-    ensures { Answers ⟦<BasicConstraints<'a> as Form>⟧ octets.now
-        (λ v at. LaidOut (⟦<BasicConstraints<'a> as Placed>⟧.layout v) 0 (⟦<BasicConstraints<'a> as Placed>⟧.listed at) octets.now)
-        out.old out.new fault.old fault.new result }
+    ensures { AnswersPlaces ⟦<BasicConstraints<'a> as Form>⟧ ⟦<BasicConstraints<'a> as Placed>⟧.layout ⟦<BasicConstraints<'a> as Placed>⟧.listed
+        octets.now out.old out.new fault.old fault.new result }
 {
     read_message::<BasicConstraintsPlaces, BasicConstraints<'a>>(alloc, octets, out, fault)
 }
@@ -123,9 +117,8 @@ pub extern "C" fn der_name_constraints<'a>(
     out: &mut NameConstraintsPlaces,
     fault: &mut Fault,
 ) -> u32
-    ensures { Answers ⟦<NameConstraints<'a> as Form>⟧ octets.now
-        (λ v at. LaidOut (⟦<NameConstraints<'a> as Placed>⟧.layout v) 0 (⟦<NameConstraints<'a> as Placed>⟧.listed at) octets.now)
-        out.old out.new fault.old fault.new result }
+    ensures { AnswersPlaces ⟦<NameConstraints<'a> as Form>⟧ ⟦<NameConstraints<'a> as Placed>⟧.layout ⟦<NameConstraints<'a> as Placed>⟧.listed
+        octets.now out.old out.new fault.old fault.new result }
 {
     read_message::<NameConstraintsPlaces, NameConstraints<'a>>(alloc, octets, out, fault)
 }
@@ -141,9 +134,8 @@ pub extern "C" fn der_general_subtree<'a>(
     out: &mut GeneralSubtreePlaces,
     fault: &mut Fault,
 ) -> u32
-    ensures { Answers ⟦<GeneralSubtree<'a> as Form>⟧ octets.now
-        (λ v at. LaidOut (⟦<GeneralSubtree<'a> as Placed>⟧.layout v) 0 (⟦<GeneralSubtree<'a> as Placed>⟧.listed at) octets.now)
-        out.old out.new fault.old fault.new result }
+    ensures { AnswersPlaces ⟦<GeneralSubtree<'a> as Form>⟧ ⟦<GeneralSubtree<'a> as Placed>⟧.layout ⟦<GeneralSubtree<'a> as Placed>⟧.listed
+        octets.now out.old out.new fault.old fault.new result }
 {
     read_message::<GeneralSubtreePlaces, GeneralSubtree<'a>>(alloc, octets, out, fault)
 }
@@ -159,9 +151,8 @@ pub extern "C" fn der_policy_constraints<'a>(
     out: &mut PolicyConstraintsPlaces,
     fault: &mut Fault,
 ) -> u32
-    ensures { Answers ⟦<PolicyConstraints<'a> as Form>⟧ octets.now
-        (λ v at. LaidOut (⟦<PolicyConstraints<'a> as Placed>⟧.layout v) 0 (⟦<PolicyConstraints<'a> as Placed>⟧.listed at) octets.now)
-        out.old out.new fault.old fault.new result }
+    ensures { AnswersPlaces ⟦<PolicyConstraints<'a> as Form>⟧ ⟦<PolicyConstraints<'a> as Placed>⟧.layout ⟦<PolicyConstraints<'a> as Placed>⟧.listed
+        octets.now out.old out.new fault.old fault.new result }
 {
     read_message::<PolicyConstraintsPlaces, PolicyConstraints<'a>>(alloc, octets, out, fault)
 }
@@ -177,9 +168,8 @@ pub extern "C" fn der_distribution_point<'a>(
     out: &mut DistributionPointPlaces,
     fault: &mut Fault,
 ) -> u32
-    ensures { Answers ⟦<DistributionPoint<'a> as Form>⟧ octets.now
-        (λ v at. LaidOut (⟦<DistributionPoint<'a> as Placed>⟧.layout v) 0 (⟦<DistributionPoint<'a> as Placed>⟧.listed at) octets.now)
-        out.old out.new fault.old fault.new result }
+    ensures { AnswersPlaces ⟦<DistributionPoint<'a> as Form>⟧ ⟦<DistributionPoint<'a> as Placed>⟧.layout ⟦<DistributionPoint<'a> as Placed>⟧.listed
+        octets.now out.old out.new fault.old fault.new result }
 {
     read_message::<DistributionPointPlaces, DistributionPoint<'a>>(alloc, octets, out, fault)
 }
@@ -195,9 +185,8 @@ pub extern "C" fn der_access_description<'a>(
     out: &mut AccessDescriptionPlaces,
     fault: &mut Fault,
 ) -> u32
-    ensures { Answers ⟦<AccessDescription<'a> as Form>⟧ octets.now
-        (λ v at. LaidOut (⟦<AccessDescription<'a> as Placed>⟧.layout v) 0 (⟦<AccessDescription<'a> as Placed>⟧.listed at) octets.now)
-        out.old out.new fault.old fault.new result }
+    ensures { AnswersPlaces ⟦<AccessDescription<'a> as Form>⟧ ⟦<AccessDescription<'a> as Placed>⟧.layout ⟦<AccessDescription<'a> as Placed>⟧.listed
+        octets.now out.old out.new fault.old fault.new result }
 {
     read_message::<AccessDescriptionPlaces, AccessDescription<'a>>(alloc, octets, out, fault)
 }
@@ -213,9 +202,8 @@ pub extern "C" fn der_issuing_distribution_point<'a>(
     out: &mut IssuingDistributionPointPlaces,
     fault: &mut Fault,
 ) -> u32
-    ensures { Answers ⟦<IssuingDistributionPoint<'a> as Form>⟧ octets.now
-        (λ v at. LaidOut (⟦<IssuingDistributionPoint<'a> as Placed>⟧.layout v) 0 (⟦<IssuingDistributionPoint<'a> as Placed>⟧.listed at) octets.now)
-        out.old out.new fault.old fault.new result }
+    ensures { AnswersPlaces ⟦<IssuingDistributionPoint<'a> as Form>⟧ ⟦<IssuingDistributionPoint<'a> as Placed>⟧.layout ⟦<IssuingDistributionPoint<'a> as Placed>⟧.listed
+        octets.now out.old out.new fault.old fault.new result }
 {
     read_message::<IssuingDistributionPointPlaces, IssuingDistributionPoint<'a>>(
         alloc, octets, out, fault,

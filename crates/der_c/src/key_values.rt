@@ -1,7 +1,6 @@
 //! Keys of RSA and of elliptic curves, and encrypted ones.
 
-ghost use Rattle.der_places.specs.Layout.{LaidOut};
-ghost use Rattle.der_c.specs.Answers.{Answers};
+ghost use Rattle.der_c.specs.Answers.{AnswersPlaces};
 
 use crate::fault::Fault;
 use crate::message::read_message;
@@ -23,9 +22,8 @@ pub extern "C" fn der_rsa_public_key<'a>(
     out: &mut RsaPublicKeyPlaces,
     fault: &mut Fault,
 ) -> u32
-    ensures { Answers ⟦<RsaPublicKey<'a> as Form>⟧ octets.now
-        (λ v at. LaidOut (⟦<RsaPublicKey<'a> as Placed>⟧.layout v) 0 (⟦<RsaPublicKey<'a> as Placed>⟧.listed at) octets.now)
-        out.old out.new fault.old fault.new result }
+    ensures { AnswersPlaces ⟦<RsaPublicKey<'a> as Form>⟧ ⟦<RsaPublicKey<'a> as Placed>⟧.layout ⟦<RsaPublicKey<'a> as Placed>⟧.listed
+        octets.now out.old out.new fault.old fault.new result }
 {
     read_message::<RsaPublicKeyPlaces, RsaPublicKey<'a>>(alloc, octets, out, fault)
 }
@@ -40,9 +38,8 @@ pub extern "C" fn der_rsa_private_key<'a>(
     out: &mut RsaPrivateKeyPlaces,
     fault: &mut Fault,
 ) -> u32
-    ensures { Answers ⟦<RsaPrivateKey<'a> as Form>⟧ octets.now
-        (λ v at. LaidOut (⟦<RsaPrivateKey<'a> as Placed>⟧.layout v) 0 (⟦<RsaPrivateKey<'a> as Placed>⟧.listed at) octets.now)
-        out.old out.new fault.old fault.new result }
+    ensures { AnswersPlaces ⟦<RsaPrivateKey<'a> as Form>⟧ ⟦<RsaPrivateKey<'a> as Placed>⟧.layout ⟦<RsaPrivateKey<'a> as Placed>⟧.listed
+        octets.now out.old out.new fault.old fault.new result }
 {
     read_message::<RsaPrivateKeyPlaces, RsaPrivateKey<'a>>(alloc, octets, out, fault)
 }
@@ -58,9 +55,8 @@ pub extern "C" fn der_ec_private_key<'a>(
     out: &mut EcPrivateKeyPlaces,
     fault: &mut Fault,
 ) -> u32
-    ensures { Answers ⟦<EcPrivateKey<'a> as Form>⟧ octets.now
-        (λ v at. LaidOut (⟦<EcPrivateKey<'a> as Placed>⟧.layout v) 0 (⟦<EcPrivateKey<'a> as Placed>⟧.listed at) octets.now)
-        out.old out.new fault.old fault.new result }
+    ensures { AnswersPlaces ⟦<EcPrivateKey<'a> as Form>⟧ ⟦<EcPrivateKey<'a> as Placed>⟧.layout ⟦<EcPrivateKey<'a> as Placed>⟧.listed
+        octets.now out.old out.new fault.old fault.new result }
 {
     read_message::<EcPrivateKeyPlaces, EcPrivateKey<'a>>(alloc, octets, out, fault)
 }
@@ -76,9 +72,8 @@ pub extern "C" fn der_encrypted_private_key_info<'a>(
     out: &mut EncryptedPrivateKeyInfoPlaces,
     fault: &mut Fault,
 ) -> u32
-    ensures { Answers ⟦<EncryptedPrivateKeyInfo<'a> as Form>⟧ octets.now
-        (λ v at. LaidOut (⟦<EncryptedPrivateKeyInfo<'a> as Placed>⟧.layout v) 0 (⟦<EncryptedPrivateKeyInfo<'a> as Placed>⟧.listed at) octets.now)
-        out.old out.new fault.old fault.new result }
+    ensures { AnswersPlaces ⟦<EncryptedPrivateKeyInfo<'a> as Form>⟧ ⟦<EncryptedPrivateKeyInfo<'a> as Placed>⟧.layout ⟦<EncryptedPrivateKeyInfo<'a> as Placed>⟧.listed
+        octets.now out.old out.new fault.old fault.new result }
 {
     read_message::<EncryptedPrivateKeyInfoPlaces, EncryptedPrivateKeyInfo<'a>>(
         alloc, octets, out, fault,

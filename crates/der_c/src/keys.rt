@@ -4,7 +4,7 @@ ghost use Rattle.std.specs.Prelude.{◌≡◌};
 ghost use Rattle.der_elem.specs.Decoding.{AllRead};
 ghost use Rattle.der_pkix.specs.Key.OneAsymmetricKey as key;
 ghost use Rattle.der_places.specs.Layout.{LaidOut};
-ghost use Rattle.der_c.specs.Answers.{Answers};
+ghost use Rattle.der_c.specs.Answers.{Answers, AnswersPlaces};
 
 use crate::fault::{Fault, refuse};
 use crate::message::read_message;
@@ -38,9 +38,8 @@ pub extern "C" fn der_subject_public_key_info<'a>(
     out: &mut SubjectPublicKeyInfoPlaces,
     fault: &mut Fault,
 ) -> u32
-    ensures { Answers ⟦<SubjectPublicKeyInfo<'a> as Form>⟧ octets.now
-        (λ v at. LaidOut (⟦<SubjectPublicKeyInfo<'a> as Placed>⟧.layout v) 0 (⟦<SubjectPublicKeyInfo<'a> as Placed>⟧.listed at) octets.now)
-        out.old out.new fault.old fault.new result }
+    ensures { AnswersPlaces ⟦<SubjectPublicKeyInfo<'a> as Form>⟧ ⟦<SubjectPublicKeyInfo<'a> as Placed>⟧.layout ⟦<SubjectPublicKeyInfo<'a> as Placed>⟧.listed
+        octets.now out.old out.new fault.old fault.new result }
 {
     read_message::<SubjectPublicKeyInfoPlaces, SubjectPublicKeyInfo<'a>>(alloc, octets, out, fault)
 }

@@ -14,6 +14,7 @@ mod canonical;
 mod certificate;
 mod certificate_list;
 mod certification_request;
+mod comparing;
 mod contents;
 mod enveloped;
 mod extension;
@@ -51,6 +52,7 @@ pub use canonical::der_canonical;
 pub use certificate::{CertificateAt, der_certificate};
 pub use certificate_list::{CertificateListAt, der_certificate_list};
 pub use certification_request::{CertificationRequestAt, der_certification_request};
+pub use comparing::{der_cert_id_is, der_issuer_and_serial_number_is};
 pub use contents::{der_contents, der_next_encoding, der_signed_octets};
 pub use enveloped::{
     der_encrypted_content_info, der_encrypted_data, der_enveloped_data, der_ess_cert_idv2,

@@ -2,7 +2,7 @@
 
 ghost use Rattle.std.specs.Prelude.{IfErr, IfOk};
 ghost use Rattle.der_places.specs.Layout.{LaidOut};
-ghost use Rattle.der_c.specs.Answers.{Answers, Given, Refuses};
+ghost use Rattle.der_c.specs.Answers.{AnswersPlaces, Given, Refuses};
 
 use crate::fault::{Fault, refuse};
 use der_elem::{DecodeValue, Form, FromDer, OneTag};
@@ -19,9 +19,8 @@ pub(crate) fn read_message<
     P: Copy,
     T: Copy + DecodeValue<'a, SliceReader<'a>> + OneTag + Placed<Places = P>,
 >(alloc: Global, octets: &'a [u8], out: &mut P, fault: &mut Fault) -> u32
-    ensures { Answers ⟦<T as Form>⟧ octets.now
-        (λ v at. LaidOut (T.Placed.layout v) 0 (T.Placed.listed at) octets.now)
-        out.old out.new fault.old fault.new result }
+    ensures { AnswersPlaces ⟦<T as Form>⟧ T.Placed.layout T.Placed.listed
+        octets.now out.old out.new fault.old fault.new result }
 {
     match fields_of::<P, T>(alloc, octets) {
         Ok(places) => {

@@ -26,7 +26,7 @@ pub extern "C" fn der_names_match<'a>(
     out: &mut u32,
     fault: &mut Fault,
 ) -> u32
-    ensures { AnswersPair ⟦<Name<'a> as Form>⟧ first.now second.now
+    ensures { AnswersPair ⟦<Name<'a> as Form>⟧ ⟦<Name<'a> as Form>⟧ first.now second.now
         (λ v w n. (parts others : List (List AttributeTypeAndValue))
         → AreParts ⟦<RelativeDistinguishedName<'a> as Form>⟧ ⟦<AttributeTypeAndValue<'a> as Form>⟧ v parts
         → AreParts ⟦<RelativeDistinguishedName<'a> as Form>⟧ ⟦<AttributeTypeAndValue<'a> as Form>⟧ w others

@@ -1,7 +1,6 @@
 //! OCSP requests.
 
-ghost use Rattle.der_places.specs.Layout.{LaidOut};
-ghost use Rattle.der_c.specs.Answers.{Answers};
+ghost use Rattle.der_c.specs.Answers.{AnswersPlaces};
 
 use crate::fault::Fault;
 use crate::message::read_message;
@@ -21,9 +20,8 @@ pub extern "C" fn der_ocsp_request<'a>(
     out: &mut OcspRequestPlaces,
     fault: &mut Fault,
 ) -> u32
-    ensures { Answers ⟦<OcspRequest<'a> as Form>⟧ octets.now
-        (λ v at. LaidOut (⟦<OcspRequest<'a> as Placed>⟧.layout v) 0 (⟦<OcspRequest<'a> as Placed>⟧.listed at) octets.now)
-        out.old out.new fault.old fault.new result }
+    ensures { AnswersPlaces ⟦<OcspRequest<'a> as Form>⟧ ⟦<OcspRequest<'a> as Placed>⟧.layout ⟦<OcspRequest<'a> as Placed>⟧.listed
+        octets.now out.old out.new fault.old fault.new result }
 {
     read_message::<OcspRequestPlaces, OcspRequest<'a>>(alloc, octets, out, fault)
 }
@@ -38,9 +36,8 @@ pub extern "C" fn der_tbs_request<'a>(
     out: &mut TbsRequestPlaces,
     fault: &mut Fault,
 ) -> u32
-    ensures { Answers ⟦<TbsRequest<'a> as Form>⟧ octets.now
-        (λ v at. LaidOut (⟦<TbsRequest<'a> as Placed>⟧.layout v) 0 (⟦<TbsRequest<'a> as Placed>⟧.listed at) octets.now)
-        out.old out.new fault.old fault.new result }
+    ensures { AnswersPlaces ⟦<TbsRequest<'a> as Form>⟧ ⟦<TbsRequest<'a> as Placed>⟧.layout ⟦<TbsRequest<'a> as Placed>⟧.listed
+        octets.now out.old out.new fault.old fault.new result }
 {
     read_message::<TbsRequestPlaces, TbsRequest<'a>>(alloc, octets, out, fault)
 }
@@ -55,9 +52,8 @@ pub extern "C" fn der_request<'a>(
     out: &mut RequestPlaces,
     fault: &mut Fault,
 ) -> u32
-    ensures { Answers ⟦<Request<'a> as Form>⟧ octets.now
-        (λ v at. LaidOut (⟦<Request<'a> as Placed>⟧.layout v) 0 (⟦<Request<'a> as Placed>⟧.listed at) octets.now)
-        out.old out.new fault.old fault.new result }
+    ensures { AnswersPlaces ⟦<Request<'a> as Form>⟧ ⟦<Request<'a> as Placed>⟧.layout ⟦<Request<'a> as Placed>⟧.listed
+        octets.now out.old out.new fault.old fault.new result }
 {
     read_message::<RequestPlaces, Request<'a>>(alloc, octets, out, fault)
 }
@@ -72,9 +68,8 @@ pub extern "C" fn der_cert_id<'a>(
     out: &mut CertIdPlaces,
     fault: &mut Fault,
 ) -> u32
-    ensures { Answers ⟦<CertId<'a> as Form>⟧ octets.now
-        (λ v at. LaidOut (⟦<CertId<'a> as Placed>⟧.layout v) 0 (⟦<CertId<'a> as Placed>⟧.listed at) octets.now)
-        out.old out.new fault.old fault.new result }
+    ensures { AnswersPlaces ⟦<CertId<'a> as Form>⟧ ⟦<CertId<'a> as Placed>⟧.layout ⟦<CertId<'a> as Placed>⟧.listed
+        octets.now out.old out.new fault.old fault.new result }
 {
     read_message::<CertIdPlaces, CertId<'a>>(alloc, octets, out, fault)
 }

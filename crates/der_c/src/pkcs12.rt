@@ -1,7 +1,6 @@
 //! PKCS #12 files.
 
-ghost use Rattle.der_places.specs.Layout.{LaidOut};
-ghost use Rattle.der_c.specs.Answers.{Answers};
+ghost use Rattle.der_c.specs.Answers.{AnswersPlaces};
 
 use crate::fault::Fault;
 use crate::message::read_message;
@@ -23,9 +22,8 @@ pub extern "C" fn der_pfx<'a>(
     out: &mut PfxPlaces,
     fault: &mut Fault,
 ) -> u32
-    ensures { Answers ⟦<Pfx<'a> as Form>⟧ octets.now
-        (λ v at. LaidOut (⟦<Pfx<'a> as Placed>⟧.layout v) 0 (⟦<Pfx<'a> as Placed>⟧.listed at) octets.now)
-        out.old out.new fault.old fault.new result }
+    ensures { AnswersPlaces ⟦<Pfx<'a> as Form>⟧ ⟦<Pfx<'a> as Placed>⟧.layout ⟦<Pfx<'a> as Placed>⟧.listed
+        octets.now out.old out.new fault.old fault.new result }
 {
     read_message::<PfxPlaces, Pfx<'a>>(alloc, octets, out, fault)
 }
@@ -40,9 +38,8 @@ pub extern "C" fn der_mac_data<'a>(
     out: &mut MacDataPlaces,
     fault: &mut Fault,
 ) -> u32
-    ensures { Answers ⟦<MacData<'a> as Form>⟧ octets.now
-        (λ v at. LaidOut (⟦<MacData<'a> as Placed>⟧.layout v) 0 (⟦<MacData<'a> as Placed>⟧.listed at) octets.now)
-        out.old out.new fault.old fault.new result }
+    ensures { AnswersPlaces ⟦<MacData<'a> as Form>⟧ ⟦<MacData<'a> as Placed>⟧.layout ⟦<MacData<'a> as Placed>⟧.listed
+        octets.now out.old out.new fault.old fault.new result }
 {
     read_message::<MacDataPlaces, MacData<'a>>(alloc, octets, out, fault)
 }
@@ -57,9 +54,8 @@ pub extern "C" fn der_digest_info<'a>(
     out: &mut DigestInfoPlaces,
     fault: &mut Fault,
 ) -> u32
-    ensures { Answers ⟦<DigestInfo<'a> as Form>⟧ octets.now
-        (λ v at. LaidOut (⟦<DigestInfo<'a> as Placed>⟧.layout v) 0 (⟦<DigestInfo<'a> as Placed>⟧.listed at) octets.now)
-        out.old out.new fault.old fault.new result }
+    ensures { AnswersPlaces ⟦<DigestInfo<'a> as Form>⟧ ⟦<DigestInfo<'a> as Placed>⟧.layout ⟦<DigestInfo<'a> as Placed>⟧.listed
+        octets.now out.old out.new fault.old fault.new result }
 {
     read_message::<DigestInfoPlaces, DigestInfo<'a>>(alloc, octets, out, fault)
 }
@@ -74,9 +70,8 @@ pub extern "C" fn der_safe_bag<'a>(
     out: &mut SafeBagPlaces,
     fault: &mut Fault,
 ) -> u32
-    ensures { Answers ⟦<SafeBag<'a> as Form>⟧ octets.now
-        (λ v at. LaidOut (⟦<SafeBag<'a> as Placed>⟧.layout v) 0 (⟦<SafeBag<'a> as Placed>⟧.listed at) octets.now)
-        out.old out.new fault.old fault.new result }
+    ensures { AnswersPlaces ⟦<SafeBag<'a> as Form>⟧ ⟦<SafeBag<'a> as Placed>⟧.layout ⟦<SafeBag<'a> as Placed>⟧.listed
+        octets.now out.old out.new fault.old fault.new result }
 {
     read_message::<SafeBagPlaces, SafeBag<'a>>(alloc, octets, out, fault)
 }
@@ -91,9 +86,8 @@ pub extern "C" fn der_cert_bag<'a>(
     out: &mut CertBagPlaces,
     fault: &mut Fault,
 ) -> u32
-    ensures { Answers ⟦<CertBag<'a> as Form>⟧ octets.now
-        (λ v at. LaidOut (⟦<CertBag<'a> as Placed>⟧.layout v) 0 (⟦<CertBag<'a> as Placed>⟧.listed at) octets.now)
-        out.old out.new fault.old fault.new result }
+    ensures { AnswersPlaces ⟦<CertBag<'a> as Form>⟧ ⟦<CertBag<'a> as Placed>⟧.layout ⟦<CertBag<'a> as Placed>⟧.listed
+        octets.now out.old out.new fault.old fault.new result }
 {
     read_message::<CertBagPlaces, CertBag<'a>>(alloc, octets, out, fault)
 }

@@ -4,7 +4,7 @@ ghost use Rattle.std.specs.Prelude.{◌≡◌};
 ghost use Rattle.der_cms.specs.Cms.SignedData as signed;
 ghost use Rattle.der_elem.specs.Decoding.{AllRead};
 ghost use Rattle.der_places.specs.Layout.{LaidAt, LaidOut};
-ghost use Rattle.der_c.specs.Answers.{Answers};
+ghost use Rattle.der_c.specs.Answers.{Answers, AnswersPlaces};
 
 use crate::fault::{Fault, refuse};
 use crate::message::read_message;
@@ -26,9 +26,8 @@ pub extern "C" fn der_content_info<'a>(
     out: &mut ContentInfoPlaces,
     fault: &mut Fault,
 ) -> u32
-    ensures { Answers ⟦<ContentInfo<'a> as Form>⟧ octets.now
-        (λ v at. LaidOut (⟦<ContentInfo<'a> as Placed>⟧.layout v) 0 (⟦<ContentInfo<'a> as Placed>⟧.listed at) octets.now)
-        out.old out.new fault.old fault.new result }
+    ensures { AnswersPlaces ⟦<ContentInfo<'a> as Form>⟧ ⟦<ContentInfo<'a> as Placed>⟧.layout ⟦<ContentInfo<'a> as Placed>⟧.listed
+        octets.now out.old out.new fault.old fault.new result }
 {
     read_message::<ContentInfoPlaces, ContentInfo<'a>>(alloc, octets, out, fault)
 }

@@ -1,7 +1,6 @@
 //! Time stamps.
 
-ghost use Rattle.der_places.specs.Layout.{LaidOut};
-ghost use Rattle.der_c.specs.Answers.{Answers};
+ghost use Rattle.der_c.specs.Answers.{AnswersPlaces};
 
 use crate::fault::Fault;
 use crate::message::read_message;
@@ -26,9 +25,8 @@ pub extern "C" fn der_time_stamp_req<'a>(
     out: &mut TimeStampReqPlaces,
     fault: &mut Fault,
 ) -> u32
-    ensures { Answers ⟦<TimeStampReq<'a> as Form>⟧ octets.now
-        (λ v at. LaidOut (⟦<TimeStampReq<'a> as Placed>⟧.layout v) 0 (⟦<TimeStampReq<'a> as Placed>⟧.listed at) octets.now)
-        out.old out.new fault.old fault.new result }
+    ensures { AnswersPlaces ⟦<TimeStampReq<'a> as Form>⟧ ⟦<TimeStampReq<'a> as Placed>⟧.layout ⟦<TimeStampReq<'a> as Placed>⟧.listed
+        octets.now out.old out.new fault.old fault.new result }
 {
     read_message::<TimeStampReqPlaces, TimeStampReq<'a>>(alloc, octets, out, fault)
 }
@@ -43,9 +41,8 @@ pub extern "C" fn der_message_imprint<'a>(
     out: &mut MessageImprintPlaces,
     fault: &mut Fault,
 ) -> u32
-    ensures { Answers ⟦<MessageImprint<'a> as Form>⟧ octets.now
-        (λ v at. LaidOut (⟦<MessageImprint<'a> as Placed>⟧.layout v) 0 (⟦<MessageImprint<'a> as Placed>⟧.listed at) octets.now)
-        out.old out.new fault.old fault.new result }
+    ensures { AnswersPlaces ⟦<MessageImprint<'a> as Form>⟧ ⟦<MessageImprint<'a> as Placed>⟧.layout ⟦<MessageImprint<'a> as Placed>⟧.listed
+        octets.now out.old out.new fault.old fault.new result }
 {
     read_message::<MessageImprintPlaces, MessageImprint<'a>>(alloc, octets, out, fault)
 }
@@ -60,9 +57,8 @@ pub extern "C" fn der_time_stamp_resp<'a>(
     out: &mut TimeStampRespPlaces,
     fault: &mut Fault,
 ) -> u32
-    ensures { Answers ⟦<TimeStampResp<'a> as Form>⟧ octets.now
-        (λ v at. LaidOut (⟦<TimeStampResp<'a> as Placed>⟧.layout v) 0 (⟦<TimeStampResp<'a> as Placed>⟧.listed at) octets.now)
-        out.old out.new fault.old fault.new result }
+    ensures { AnswersPlaces ⟦<TimeStampResp<'a> as Form>⟧ ⟦<TimeStampResp<'a> as Placed>⟧.layout ⟦<TimeStampResp<'a> as Placed>⟧.listed
+        octets.now out.old out.new fault.old fault.new result }
 {
     read_message::<TimeStampRespPlaces, TimeStampResp<'a>>(alloc, octets, out, fault)
 }
@@ -77,9 +73,8 @@ pub extern "C" fn der_pki_status_info<'a>(
     out: &mut PkiStatusInfoPlaces,
     fault: &mut Fault,
 ) -> u32
-    ensures { Answers ⟦<PkiStatusInfo<'a> as Form>⟧ octets.now
-        (λ v at. LaidOut (⟦<PkiStatusInfo<'a> as Placed>⟧.layout v) 0 (⟦<PkiStatusInfo<'a> as Placed>⟧.listed at) octets.now)
-        out.old out.new fault.old fault.new result }
+    ensures { AnswersPlaces ⟦<PkiStatusInfo<'a> as Form>⟧ ⟦<PkiStatusInfo<'a> as Placed>⟧.layout ⟦<PkiStatusInfo<'a> as Placed>⟧.listed
+        octets.now out.old out.new fault.old fault.new result }
 {
     read_message::<PkiStatusInfoPlaces, PkiStatusInfo<'a>>(alloc, octets, out, fault)
 }
@@ -94,9 +89,8 @@ pub extern "C" fn der_tst_info<'a>(
     out: &mut TstInfoPlaces,
     fault: &mut Fault,
 ) -> u32
-    ensures { Answers ⟦<TstInfo<'a> as Form>⟧ octets.now
-        (λ v at. LaidOut (⟦<TstInfo<'a> as Placed>⟧.layout v) 0 (⟦<TstInfo<'a> as Placed>⟧.listed at) octets.now)
-        out.old out.new fault.old fault.new result }
+    ensures { AnswersPlaces ⟦<TstInfo<'a> as Form>⟧ ⟦<TstInfo<'a> as Placed>⟧.layout ⟦<TstInfo<'a> as Placed>⟧.listed
+        octets.now out.old out.new fault.old fault.new result }
 {
     read_message::<TstInfoPlaces, TstInfo<'a>>(alloc, octets, out, fault)
 }
@@ -111,9 +105,8 @@ pub extern "C" fn der_accuracy<'a>(
     out: &mut AccuracyPlaces,
     fault: &mut Fault,
 ) -> u32
-    ensures { Answers ⟦<Accuracy as Form>⟧ octets.now
-        (λ v at. LaidOut (⟦<Accuracy as Placed>⟧.layout v) 0 (⟦<Accuracy as Placed>⟧.listed at) octets.now)
-        out.old out.new fault.old fault.new result }
+    ensures { AnswersPlaces ⟦<Accuracy as Form>⟧ ⟦<Accuracy as Placed>⟧.layout ⟦<Accuracy as Placed>⟧.listed
+        octets.now out.old out.new fault.old fault.new result }
 {
     read_message::<AccuracyPlaces, Accuracy>(alloc, octets, out, fault)
 }
