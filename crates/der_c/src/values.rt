@@ -83,8 +83,7 @@ pub extern "C" fn der_fractional_time<'a>(
 }
 
 /// Reads all octets as a BIT STRING with named bits (X.680 22.7), such as a KeyUsage, and writes
-/// the
-/// bits 0 to 15: bit 0 as 1, bit 1 as 2, bit 2 as 4, and so on.
+/// the bits 0 to 15: bit 0 as 1, bit 1 as 2, bit 2 as 4, and so on.
 ///
 /// Returns 0, or the number of the first error; `out` is then unchanged.
 #[unsafe(no_mangle)]
