@@ -14,6 +14,16 @@ der_place der_extensions(const uint8_t *octets, size_t len, const der_place *fie
     return der_items(octets, len, &list);
 }
 
+der_place der_bit_string_octets(const uint8_t *octets, size_t len, const der_place *place)
+{
+    der_place found = der_items(octets, len, place);
+    if (found.length == 0)
+        return found;
+    found.length = octets[found.offset] == 0 ? found.length - 1 : 0;
+    found.offset++;
+    return found;
+}
+
 /* Refuses a place that is not within the octets (100), and octets that are not there (101). */
 static uint32_t check(const uint8_t *octets, size_t len, der_place left, der_fault *fault)
 {

@@ -18,6 +18,7 @@ import tempfile
 import warnings
 
 from lib import ROOT, text_of
+from lib.c_examples import try_examples
 from lib.packages import try_go, try_other_version, try_python, try_rust
 from lib.readme_lines import try_lines
 from lib.trials import Trials, write_files
@@ -141,6 +142,11 @@ def try_c(trials, room, sample, files):
         for name in ("beside_openssl", "signed_beside_openssl"):
             trials.run(f"make build/{name}", [*make, f"{room}/build/{name}"])
             print(trials.run(f"C: {name}", [f"{room}/build/{name}", *files]), end="")
+        trials.run("make examples", [*make, "examples"])
+        if shutil.which("openssl"):
+            try_examples(trials, room, f"{room}/build")
+        else:
+            trials.left_out("the other examples in C", "openssl")
     if shutil.which("valgrind"):
         for name, what in names.items():
             words = ["valgrind", "-q", "--error-exitcode=9", "--leak-check=full", f"{room}/build/{name}", given[name]]

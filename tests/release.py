@@ -114,8 +114,12 @@ def use_c(machine):
     machine.run("sha256sum -c", ["sha256sum", "-c", "--quiet", "--strict", "RELEASE"])
     machine.run("make", ["make", "-s", "-C", "c"])
     machine.example("C", ["c/build/certificate", machine.sample])
+    if subprocess.run(["cc", "-E", "-x", "c", "-"], input="#include <openssl/x509.h>\n", text=True, capture_output=True).returncode:
+        machine.trials.left_out("the other examples in C", "openssl/x509.h")
+    else:
+        machine.run("make examples", ["make", "-s", "-C", "c", "examples"])
     machine.run("make install", ["make", "-s", "-C", "c", "install", f"PREFIX={machine.folder}/installed"])
-    words = ["cc", "-std=c11", "-Iinstalled/include", "-o", "shared", "c/certificate.c", "-Linstalled/lib", "-lder_c", "-Wl,-rpath,$ORIGIN/installed/lib"]
+    words = ["cc", "-std=c11", "-Iinstalled/include", "-o", "shared", "c/examples/certificate.c", "-Linstalled/lib", "-lder_c", "-Wl,-rpath,$ORIGIN/installed/lib"]
     machine.run("the example is linked with the shared object", words)
     machine.example("C, shared", ["./shared", machine.sample])
     use_pkg_config(machine)

@@ -41,9 +41,7 @@ static void compare_key(const uint8_t *whole, size_t length, X509_PUBKEY *want)
     same_number("answer for a key", der_subject_public_key_info(octets, len, &at, &fault), 0);
     X509_PUBKEY_get0_param(&identifier, &bits, &count, &algorithm, want);
     SAME("algorithm", at.algorithm, i2d_X509_ALGOR, algorithm);
-    der_place contents = der_contents(octets, len, &at.subject_public_key);
-    der_place behind = {contents.offset + 1, contents.length - 1};
-    same("subjectPublicKey", behind, bits, count);
+    same("subjectPublicKey", der_bit_string_octets(octets, len, &at.subject_public_key), bits, count);
     octets = all;
     len = all_len;
 }

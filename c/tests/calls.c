@@ -175,6 +175,8 @@ static void place_outside(const uint8_t *octets, size_t len, der_place left)
     der_name_left name = {left, {0, 0}};
     check(is_within(2, der_contents(octets, 2, &left)), "contents within two octets");
     check(is_within(len, der_contents(octets, len, &left)), "contents within the octets");
+    check(is_within(2, der_bit_string_octets(octets, 2, &left)), "octets of bits within two octets");
+    check(is_within(len, der_bit_string_octets(octets, len, &left)), "octets of bits within the octets");
     check(is_within(2, der_next_encoding(octets, 2, &left)), "an encoding within two octets");
     check(is_within(len, der_next_encoding(octets, len, &left)), "an encoding within the octets");
     /* written by tools/bindings: next calls */
@@ -210,7 +212,7 @@ static void null_pointers(void)
 {
     der_place place = {0, 2}, left = {1, 3};
     der_place none = {0, 0};
-    der_place found[3];
+    der_place found[4];
     der_extension_at extension;
     der_attribute_type_and_value_at attribute;
     der_name_left name = {{1, 3}, {0, 0}};
@@ -219,7 +221,8 @@ static void null_pointers(void)
     found[0] = der_contents(NULL, 4, &place);
     found[1] = der_next_encoding(NULL, 4, &place);
     found[2] = der_signed_octets(NULL, 4);
-    for (i = 0; i < 3; i++)
+    found[3] = der_bit_string_octets(NULL, 4, &place);
+    for (i = 0; i < 4; i++)
         check(memcmp(&found[i], &none, sizeof none) == 0, "no octets at a null pointer");
     check(der_next_extension(NULL, 4, &left, &extension, &fault) == DER_NULL_POINTER, "no extension at a null pointer");
     check(der_next_name_attribute(NULL, 4, &name, &attribute, &fault) == DER_NULL_POINTER, "no attribute there");

@@ -202,6 +202,18 @@ static void signed_attributes(void)
     check(der_signed_attributes(octets, 7, &none, buffer, 6, &written, NULL) == DER_BAD_PLACE, "attributes that are absent");
 }
 
+/* the octets of a BIT STRING: none of one that has unused bits, no bits, or is absent */
+static void bit_strings(void)
+{
+    static const uint8_t octets[] = {5, 0, 3, 3, 0, 7, 8, 3, 2, 1, 8, 3, 1, 0};
+    static const der_place whole = {2, 5}, unused = {7, 4}, empty = {11, 3}, absent = {11, 0};
+    der_place found = der_bit_string_octets(octets, sizeof octets, &whole);
+    check(found.offset == 5 && found.length == 2, "the octets of a BIT STRING");
+    check(der_bit_string_octets(octets, sizeof octets, &unused).length == 0, "a bit is unused");
+    check(der_bit_string_octets(octets, sizeof octets, &empty).length == 0, "no bits");
+    check(der_bit_string_octets(octets, sizeof octets, &absent).length == 0, "no BIT STRING");
+}
+
 static void revoked(void)
 {
     static const uint8_t serial[] = {1};
@@ -231,6 +243,7 @@ int main(int argc, char **argv)
     issuer_and_serial_number(octets, len, &at);
     cert_ids();
     signed_attributes();
+    bit_strings();
     revoked();
     return end_of_tests();
 }

@@ -20,7 +20,7 @@ CALLERS = {
     "der_asn1_types": [(f"{EXAMPLES}/comparing.rt", "")],
     "der_bits": [(f"{EXAMPLES}/bits.rt", "")],
     "der_build": [(TESTS, "name_again name_of"), (TESTS, "rsa_of")],
-    "der_c": [("c/certificate.c", "")],
+    "der_c": [("c/examples/certificate.c", "")],
     "der_constrained": [(TESTS, "Even even_again constrained_values_are_made")],
     "der_elem": [(f"{EXAMPLES}/writing.rt", "")],
     "der_fields": [(f"{EXAMPLES}/field_list.rt", "")],

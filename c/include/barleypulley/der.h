@@ -1055,6 +1055,10 @@ der_place der_next_encoding(const uint8_t *octets, size_t len, const der_place *
  * some place within the octets is returned. */
 der_place der_contents(const uint8_t *octets, size_t len, const der_place *place);
 
+/* Returns the place of the octets of a BIT STRING, such as a key or a signature, whose place a call wrote for these octets; a
+ * place of no octets if bits of the last one are unused. */
+der_place der_bit_string_octets(const uint8_t *octets, size_t len, const der_place *place);
+
 /* Returns the place of the octets that a signature covers: the first field of a certificate, a list, a request or a signed
  * OCSP response. Only headers are read. For octets that are no such message, some place within them is returned. */
 der_place der_signed_octets(const uint8_t *octets, size_t len);
