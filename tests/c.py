@@ -184,9 +184,13 @@ def refusal_of_header(words, room, header):
 
 
 def try_fuzzer(trials, room, samples):
-    """libFuzzer, over octets that stand before a page which cannot be read."""
-    words = ["clang", "-g", "-O1", "-fsanitize=fuzzer", f"-I{ROOT}/c/include", f"{ROOT}/c/tests/fuzz.c", f"{room}/build/libder_c.a"]
-    if not shutil.which("clang") or subprocess.run([*words, "-o", f"{room}/fuzz"], capture_output=True).returncode:
+    """libFuzzer, over octets that stand before a page which cannot be read. The files of c/ have sanitizers in them."""
+    compiler = "clang -g -O1 -fno-sanitize-recover=all -fsanitize=address,undefined"
+    built = [f"BUILD={room}/fuzzed", f"OBJECT={room}/proved.a", f"CC={compiler},fuzzer-no-link", f"{room}/fuzzed/libder_c.a"]
+    sources = [f"{ROOT}/c/tests/{name}.c" for name in ("fuzz", "fuzz_inner")]
+    words = [*f"{compiler},fuzzer".split(), f"-I{ROOT}/c/include", *sources, built[-1], "-o", f"{room}/fuzz"]
+    commands = [["make", "-s", "-C", f"{ROOT}/c", *built], words]
+    if not shutil.which("clang") or any(subprocess.run(it, capture_output=True).returncode for it in commands):
         trials.left_out("the fuzzer", "clang's runtime of it")
         return
     os.mkdir(f"{room}/seeds")
@@ -194,7 +198,7 @@ def try_fuzzer(trials, room, samples):
         shutil.copy(sample, f"{room}/seeds")
     words = [f"{room}/fuzz", "-max_total_time=30", "-max_len=4096", "-rss_limit_mb=1024", f"{room}/seeds"]
     told = trials.run("the fuzzer", words, cwd=room)
-    print("c: the fuzzer:", *re.findall(r"Done \d+ runs.*", told))
+    print("c: the fuzzer:", *re.findall(r"Done \d+ runs.*|^\d+ calls$", told, re.M))
 
 
 def main(words):
@@ -215,6 +219,7 @@ def main(words):
         try_symbols(trials, room)
         text = "".join(open(name, encoding="utf-8").read() for name in own)
         seeds = [name for label in ("CERTIFICATE REQUEST", "OCSP RESPONSE", "CMS", "X509 CRL") for name in write_files(text, label, room)]
+        seeds += [name for end in ("p12", "cms", "tsq", "tsr") for name in glob.glob(f"{room}/examples/*.{end}")]
         try_fuzzer(trials, room, (system or samples) + seeds)
         try_rust(trials, room, system or samples, own)
         try_python(trials, room, own)

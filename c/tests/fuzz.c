@@ -1,83 +1,13 @@
 /* The calls under libFuzzer. The octets stand right before a page that cannot be read, so that a read behind them faults
- * although the library has no instrumentation. What is passed to be filled stands between canaries. `walk` finds places
+ * although the proved functions have no instrumentation. What is passed to be filled stands between canaries. `walk` finds places
  * anew by the headers alone: it is instrumented, and so guides the fuzzer. */
 #define _DEFAULT_SOURCE
-#include <barleypulley/der.h>
+#include "fuzz.h"
 
-#include <stdio.h>
-#include <stdlib.h>
-#include <string.h>
 #include <sys/mman.h>
 
-#define CHECK(e)                                                 \
-    do {                                                         \
-        if (!(e)) {                                              \
-            fprintf(stderr, "not so: %s, line %d\n", #e, __LINE__); \
-            abort();                                             \
-        }                                                        \
-    } while (0)
-
 enum { ROOM = 1 << 16, PAGE = 4096 };
-static const uint64_t CANARY = 0x5a5a5a5a5a5a5a5a;
-
-/* whether a place is within so many octets */
-static int is_within(size_t len, der_place place)
-{
-    return place.offset <= len && place.length <= len - place.offset;
-}
-
-/* how many octets the encoding at an offset has, and its header; 0 where none with a short tag stands there */
-static uint32_t encoding_at(const uint8_t *o, uint32_t at, uint32_t end, uint32_t *header)
-{
-    uint32_t i, count, length, octets;
-    if (end - at < 2 || (o[at] & 31) == 31)
-        return 0;
-    length = o[at + 1];
-    count = length < 128 ? 0 : length & 127;
-    if ((length >= 128 && count == 0) || count > 4 || end - at < 2 + count)
-        return 0;
-    for (i = 0, octets = count == 0 ? length : 0; i < count; i++)
-        octets = octets << 8 | o[at + 2 + i];
-    *header = 2 + count;
-    return octets > end - at - *header ? 0 : *header + octets;
-}
-
-/* places of fields stand one behind another, fill an encoding from its header on, and each is an encoding or absent */
-static void walk(const uint8_t *o, der_place whole, const der_place *fields, int count)
-{
-    uint32_t header, at = whole.offset, end = at + whole.length;
-    int i;
-    CHECK(encoding_at(o, at, end, &header) == whole.length);
-    at += header;
-    for (i = 0; i < count; i++) {
-        CHECK(fields[i].offset == at && fields[i].length <= end - at);
-        if (fields[i].length > 0)
-            CHECK(encoding_at(o, at, end, &header) == fields[i].length);
-        at += fields[i].length;
-    }
-    CHECK(at == end);
-}
-
-/* A call between canaries: after a refusal `at` is as it was, and else `fault` is. */
-#define CALL(type, call, o, size)                                                                               \
-    struct {                                                                                                    \
-        uint64_t first;                                                                                         \
-        type at;                                                                                                \
-        uint64_t second;                                                                                        \
-        der_fault fault;                                                                                        \
-        uint64_t third;                                                                                         \
-    } s, filled;                                                                                                \
-    uint32_t answer;                                                                                            \
-    memset(&filled, 0x5a, sizeof filled);                                                                       \
-    memset(&s, 0x5a, sizeof s);                                                                                 \
-    answer = call((size) != 0 ? (o) : NULL, (size), &s.at, &s.fault);                                           \
-    CHECK(s.first == CANARY && s.second == CANARY && s.third == CANARY);                                        \
-    if (answer != 0) {                                                                                          \
-        CHECK(answer == s.fault.number && answer <= 17 && s.fault.is_placed <= 1 && s.fault.position <= (size)); \
-        CHECK(memcmp(&s.at, &filled.at, sizeof s.at) == 0);                                                     \
-        return;                                                                                                 \
-    }                                                                                                           \
-    CHECK(memcmp(&s.fault, &filled.fault, sizeof s.fault) == 0)
+unsigned long long calls;
 
 static void extension(const uint8_t *o, uint32_t size)
 {
@@ -100,6 +30,7 @@ static void name(const uint8_t *o, uint32_t size, der_place place)
     der_fault fault;
     while (der_has_attribute(&left)) {
         CHECK(der_next_name_attribute(o, size, &left, &at, &fault) == 0);
+        calls++;
         walk(o, at.whole, &at.type, 2);
     }
     CHECK(left.parts.offset == place.offset + place.length);
@@ -122,6 +53,19 @@ static void certificate(const uint8_t *o, uint32_t size)
     name(o, size, s.at.subject);
 }
 
+/* the serial number of an entry is found, in this entry or one before it */
+static void find_again(const uint8_t *o, uint32_t size, der_place serial)
+{
+    der_place value = der_contents(o, size, &serial), found;
+    der_revoked_certificate_at at;
+    der_fault fault;
+    CHECK(der_find_revoked(o, size, o + value.offset, value.length, &at, &fault) == 0);
+    calls++;
+    found = der_contents(o, size, &at.user_certificate);
+    CHECK(at.whole.length > 0 && at.whole.offset <= serial.offset && found.length == value.length
+          && memcmp(o + found.offset, o + value.offset, value.length) == 0);
+}
+
 static void list(const uint8_t *o, uint32_t size)
 {
     der_place all = {0, size}, left;
@@ -133,6 +77,8 @@ static void list(const uint8_t *o, uint32_t size)
     for (left = der_items(o, size, &s.at.revoked_certificates); left.length > 0;)
         CHECK(der_next_revoked_certificate(o, size, &left, &at, &fault) == 0);
     CHECK(left.offset == s.at.revoked_certificates.offset + s.at.revoked_certificates.length);
+    if (s.at.revoked_certificates.length > 0)
+        find_again(o, size, at.user_certificate);
 }
 
 static void key(const uint8_t *o, uint32_t size)
@@ -242,6 +188,7 @@ static void canonical(const char *name, const uint8_t *o, uint32_t size, uint32_
     uint32_t answer, i;
     memset(room, 0x5a, room_len + 16);
     answer = der_canonical_named(name, o, size, room + 8, room_len, &written, &fault);
+    calls++;
     if (answer == 0)
         CHECK(written == size && written <= room_len);
     else if (answer == DER_SHORT_BUFFER)
@@ -259,6 +206,7 @@ static void checked(const uint8_t *o, uint32_t size)
     der_fault fault, other;
     uint32_t broken = 0x5a5a5a5a, answer = der_certificate(o, size, &at, &fault);
     CHECK(der_check_rfc5280(o, size, &broken, &other) == answer);
+    calls += 3;
     CHECK(answer == 0 ? broken < 1 << 18 : broken == 0x5a5a5a5a && other.number == answer);
     broken = 0x5a5a5a5a;
     answer = der_check_rfc5280_list(o, size, &broken, &other);
@@ -286,6 +234,7 @@ static void guide(const uint8_t *o, uint32_t size)
         signed_data(o + at, length);
         canonical("ext", o + at, length, length);
         canonical("intref", o + at, length, length);
+        inner_calls(o + at, length, header);
         at += (o[at] & 0x20) != 0 ? header : length;
     }
 }
@@ -300,12 +249,22 @@ static void any_place(const uint8_t *o, uint32_t size)
     CHECK(is_within(size, found));
     found = der_next_encoding(o, size, &place);
     CHECK(is_within(size, found));
+    found = der_bit_string_octets(o, size, &place);
+    CHECK(is_within(size, found));
     place.offset %= size;
     place.length %= size;
     found = der_contents(o, size, &place);
     CHECK(is_within(size, found));
     found = der_next_encoding(o, size, &place);
     CHECK(is_within(size, found));
+    found = der_bit_string_octets(o, size, &place);
+    CHECK(is_within(size, found));
+    calls += 6;
+}
+
+static void tell(void)
+{
+    fprintf(stderr, "%llu calls\n", calls);
 }
 
 int LLVMFuzzerTestOneInput(const uint8_t *data, size_t size)
@@ -314,7 +273,7 @@ int LLVMFuzzerTestOneInput(const uint8_t *data, size_t size)
     uint8_t *o;
     if (room == NULL) {
         room = mmap(NULL, ROOM + PAGE, PROT_READ | PROT_WRITE, MAP_PRIVATE | MAP_ANONYMOUS, -1, 0);
-        CHECK(room != MAP_FAILED && mprotect(room + ROOM, PAGE, PROT_NONE) == 0);
+        CHECK(room != MAP_FAILED && mprotect(room + ROOM, PAGE, PROT_NONE) == 0 && atexit(tell) == 0);
     }
     if (size > ROOM)
         return 0;

@@ -79,6 +79,10 @@ def parts_of_lists(found_rules: list[Rule], found_structs: list[Struct]) -> dict
             "refusing calls": structs_in_c.refusing_calls(found_structs),
             "next calls": structs_in_c.leaving_calls(found_structs),
         },
+        "c/tests/fuzz_inner.c": {
+            "fuzzed calls": structs_in_c.fuzzed_calls(found_structs),
+            "fuzzed lists": structs_in_c.fuzzed_lists(found_structs),
+        },
         "rust/der-proved-sys/src/lib.rs": {
             "structs": structs_in_rust.structs(found_structs),
             "calls": structs_in_rust.calls(found_structs),

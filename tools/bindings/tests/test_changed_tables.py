@@ -4,7 +4,7 @@ from __future__ import annotations
 
 from ..command import RULES, STRUCTS
 from .test_lists import (
-    BITS, CALLS, CHECKED, FINDINGS, GO, HEADER, LISTS, LISTS_ANTT, PAGE, PLACES, PYTHON, RULES_ANTT, RUST, SAFE, SECTIONS, SYS, VERIFY,
+    BITS, CALLS, CHECKED, FINDINGS, FUZZED, GO, HEADER, LISTS, LISTS_ANTT, PAGE, PLACES, PYTHON, RULES_ANTT, RUST, SAFE, SECTIONS, SYS, VERIFY,
     WALK,
 )
 from .tree import TreeTest
@@ -126,7 +126,7 @@ class ChangedStructs(TreeTest):
         start = text.index("attribute: Attribute ")
         end = text.index("algorithm_identifier: ")
         self.change(STRUCTS, text[start:end], "")
-        expected = {HEADER, CHECKED, WALK, CALLS, SYS, SAFE, PLACES, PYTHON, "docs/C.md", "crates/der_c/src/attribute.rt", *self.C_OF_PYTHON}
+        expected = {HEADER, CHECKED, WALK, CALLS, FUZZED, SYS, SAFE, PLACES, PYTHON, "docs/C.md", "crates/der_c/src/attribute.rt", *self.C_OF_PYTHON}
         self.assertEqual(self.files_told(), expected | {"rust/der-proved/src/attribute.rs", "go/der/attribute.go"})
 
     def test_a_struct_more(self) -> None:
@@ -139,7 +139,7 @@ class ChangedStructs(TreeTest):
     def test_a_struct_less_that_is_written_as_a_whole(self) -> None:
         text = self.text(STRUCTS)
         self.change(STRUCTS, text[text.index("cert_bag: CertBag ") :], "")
-        expected = {HEADER, CHECKED, CALLS, SYS, SAFE, PLACES, "docs/C.md", "crates/der_c/src/pkcs12.rt", *self.C_OF_PYTHON}
+        expected = {HEADER, CHECKED, CALLS, FUZZED, SYS, SAFE, PLACES, "docs/C.md", "crates/der_c/src/pkcs12.rt", *self.C_OF_PYTHON}
         self.assertEqual(self.files_told(), expected | self.INNER)
 
     def test_a_secret(self) -> None:

@@ -6,6 +6,7 @@ from .tree import TreeTest
 
 HEADER = "c/include/barleypulley/der.h"
 CALLS = "c/tests/calls.c"
+FUZZED = "c/tests/fuzz_inner.c"
 CHECKED = "c/checked.c"
 WALK = "c/walk.c"
 SYS = "rust/der-proved-sys/src/lib.rs"
@@ -36,6 +37,8 @@ WRITTEN = [
     (WALK, "NEXT(single_response, der_single_response_at, 6)", "NEXT(single_response, der_single_response_at, 5)", 0),
     (WALK, "NEXT_ENCODING(request, der_request_at, 2)", "NEXT_ENCODING(request, der_request_at, 3)", 0),
     (CALLS, "REFUSES(der_pfx_at, der_pfx)", "REFUSES(der_pfx_at, der_mac_data)", 0),
+    (FUZZED, "INNER(pfx, der_pfx_at)", "INNER(pfx, der_mac_data_at)", 0),
+    (FUZZED, "ITEMS(der_next_request,", "ITEMS(der_next_extension,", 0),
     (CALLS, "LEAVES(der_request_at, der_next_request)", "LEAVES(der_request_at, der_next_extension)", 0),
     ("rust/der-proved/src/inner.rs", "Pfx, pfx, PfxAt", "Pfx, pfx, CertIdAt", 0),
     ("go/der/inner.go", "at     C.der_pfx_at", "at     C.der_cert_id_at", 0),

@@ -107,6 +107,16 @@ def leaving_calls(found: list[Struct]) -> list[str]:
     return [f"    LEAVES({struct_in_c(struct)}, {struct.next.name});" for struct in in_lists(found) if struct.next]
 
 
+def fuzzed_calls(found: list[Struct]) -> list[str]:
+    """The fuzzer's calls for messages of places alone."""
+    return [f"    INNER({struct.name}, {struct_in_c(struct)});" for struct in found if struct.is_inner]
+
+
+def fuzzed_lists(found: list[Struct]) -> list[str]:
+    """Its calls that read one message after another."""
+    return [f"    ITEMS({struct.next.name}, {struct_in_c(struct)});" for struct in in_lists(found) if struct.next]
+
+
 def next_calls(found: list[Struct]) -> list[str]:
     """The declarations of these calls."""
     return [line for struct in in_lists(found) for line in [*next_call(struct), ""]][:-1]
