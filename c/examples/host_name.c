@@ -7,11 +7,11 @@
 #define SUBJECT_ALT_NAME "2.5.29.17"
 
 /* Reads an address of IPv4 or IPv6, and gives how many octets it has; 0 for another text. */
-static size_t read_address(const char *text, uint8_t *octets)
+static size_t read_address(const char *text, uint8_t *address)
 {
-    if (inet_pton(AF_INET, text, octets) == 1)
+    if (inet_pton(AF_INET, text, address) == 1)
         return 4;
-    return inet_pton(AF_INET6, text, octets) == 1 ? 16 : 0;
+    return inet_pton(AF_INET6, text, address) == 1 ? 16 : 0;
 }
 
 int main(int argc, char **argv)

@@ -69,8 +69,8 @@ static int is_of(const signed_data *token, const certificate *authority)
            && has_signed(token, &signer, content_of(token), authority);
 }
 
-/* Says when the file was stamped. */
-static int tell(octets info, octets stamped, const char *nonce)
+/* Says when a file was stamped. */
+static int tell(octets info, octets stamped, const certificate *authority, const char *nonce)
 {
     der_tst_info_at at;
     der_message_imprint_at imprint;
@@ -87,8 +87,8 @@ static int tell(octets info, octets stamped, const char *nonce)
         && (der_unsigned_integer(number.at, number.len, &found, NULL) != 0 || found != strtoull(nonce, NULL, 0)))
         return refused("the time stamp answers another request");
     time = part(info, at.gen_time);
-    if (der_fractional_time(time.at, time.len, &seconds, NULL) != 0)
-        return refused("no time");
+    if (der_fractional_time(time.at, time.len, &seconds, NULL) != 0 || !is_valid_at(authority, seconds))
+        return refused("the certificate was not valid at that time");
     printf("%llu\n", (unsigned long long)seconds);
     return 0;
 }
@@ -105,5 +105,5 @@ int main(int argc, char **argv)
         return refused("no time stamp was granted");
     if (!read_certificate(read_file(argv[3]), &authority) || !is_of(&token, &authority))
         return refused("the authority did not sign the time stamp");
-    return tell(content_of(&token), read_file(argv[2]), argv[4]);
+    return tell(content_of(&token), read_file(argv[2]), &authority, argv[4]);
 }
