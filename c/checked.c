@@ -80,8 +80,8 @@ CHECKED(time, uint64_t)
 CHECKED(fractional_time, uint64_t)
 CHECKED(named_bits, uint32_t)
 CHECKED(general_name, uint32_t)
-CHECKED(check_rfc5280, uint32_t)
-CHECKED(check_rfc5280_list, uint32_t)
+CHECKED(check_rfc5280, uint64_t)
+CHECKED(check_rfc5280_list, uint64_t)
 
 #define CHECKED_PAIR(name)                                                                                              \
     uint32_t proved_##name(const uint8_t *first, size_t first_len, const uint8_t *second, size_t second_len,            \

@@ -82,11 +82,11 @@ static int is_ca(const X509 *x)
 }
 
 /* the rules that a certificate breaks, where OpenSSL can tell */
-static uint32_t broken_rules(const X509 *x)
+static uint64_t broken_rules(const X509 *x)
 {
     static const struct {
         int nid, critical;
-        uint32_t rule;
+        uint64_t rule;
     } rows[] = {{NID_authority_key_identifier, 1, DER_CERTIFICATE_AUTHORITY_KEY_IDENTIFIER_NOT_CRITICAL},
                 {NID_subject_key_identifier, 1, DER_CERTIFICATE_SUBJECT_KEY_IDENTIFIER_NOT_CRITICAL},
                 {NID_freshest_crl, 1, DER_CERTIFICATE_FRESHEST_CRL_NOT_CRITICAL},
@@ -96,7 +96,7 @@ static uint32_t broken_rules(const X509 *x)
                 {NID_policy_constraints, 0, DER_CERTIFICATE_POLICY_CONSTRAINTS_CRITICAL},
                 {NID_inhibit_any_policy, 0, DER_CERTIFICATE_INHIBIT_ANY_POLICY_CRITICAL}};
     const X509_ALGOR *algorithm;
-    uint32_t broken = 0;
+    uint64_t broken = 0;
     size_t i;
     X509_get0_signature(NULL, &algorithm, x);
     broken |= X509_ALGOR_cmp(algorithm, X509_get0_tbs_sigalg(x)) != 0 ? DER_CERTIFICATE_ALGORITHMS_AGREE : 0;
@@ -114,14 +114,15 @@ static uint32_t broken_rules(const X509 *x)
 
 static void compare_rules(const X509 *x)
 {
-    static const uint32_t not_told = DER_CERTIFICATE_SERIAL_NUMBER_AT_MOST_20_OCTETS
+    static const uint64_t first = DER_CERTIFICATE_VERSION_KNOWN - 1;
+    static const uint64_t not_told = DER_CERTIFICATE_SERIAL_NUMBER_AT_MOST_20_OCTETS
                                      | DER_CERTIFICATE_UNIQUE_IDENTIFIERS_IN_VERSION_2
                                      | DER_CERTIFICATE_EXTENSIONS_STAND_ONCE
                                      | DER_CERTIFICATE_SUBJECT_DIRECTORY_ATTRIBUTES_NOT_CRITICAL;
-    uint32_t broken;
+    uint64_t broken;
     der_fault fault;
     same_number("answer", der_check_rfc5280(octets, len, &broken, &fault), 0);
-    same_number("broken rules", broken & ~not_told, broken_rules(x));
+    same_number("broken rules", broken & first & ~not_told, broken_rules(x));
 }
 
 /* The contents octets of the value of an extension, in the octets of the certificate. */

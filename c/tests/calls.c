@@ -88,8 +88,8 @@ static void all_refuse(const uint8_t *octets, size_t len, uint32_t number)
     REFUSES(der_safe_bag_at, der_safe_bag);
     REFUSES(der_cert_bag_at, der_cert_bag);
     /* end of refusing calls */
-    REFUSES(uint32_t, der_check_rfc5280);
-    REFUSES(uint32_t, der_check_rfc5280_list);
+    REFUSES(uint64_t, der_check_rfc5280);
+    REFUSES(uint64_t, der_check_rfc5280_list);
 }
 
 static void lengths(void)

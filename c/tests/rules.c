@@ -3,10 +3,10 @@
 #include "check.h"
 
 /* a call answers 0 and writes these bits, and no fault */
-static void breaks(uint32_t (*call)(const uint8_t *, size_t, uint32_t *, der_fault *), const uint8_t *octets, size_t len,
-                   uint32_t want, const char *what)
+static void breaks(uint32_t (*call)(const uint8_t *, size_t, uint64_t *, der_fault *), const uint8_t *octets, size_t len,
+                   uint64_t want, const char *what)
 {
-    uint32_t broken;
+    uint64_t broken;
     der_fault fault;
     FILL(broken);
     FILL(fault);
@@ -15,7 +15,7 @@ static void breaks(uint32_t (*call)(const uint8_t *, size_t, uint32_t *, der_fau
 }
 
 /* a rule that a certificate breaks once one octet is another; which is put back */
-static void spoilt(uint8_t *octets, size_t len, uint32_t at, uint8_t other, uint32_t want, const char *what)
+static void spoilt(uint8_t *octets, size_t len, uint32_t at, uint8_t other, uint64_t want, const char *what)
 {
     uint8_t was = octets[at];
     octets[at] = other;
@@ -52,7 +52,8 @@ static void extensions(uint8_t *octets, size_t len)
     check(der_next_extension(octets, len, &left, &extension, &fault) == 0, "it has an extension");
     identifier = der_contents(octets, len, &extension.extn_id);
     check(identifier.length == 3 && !extension.is_critical, "with an identifier of id-ce, not critical");
-    spoilt(octets, len, identifier.offset + 2, 30, DER_CERTIFICATE_NAME_CONSTRAINTS_CRITICAL, "nameConstraints, not critical");
+    spoilt(octets, len, identifier.offset + 2, 30,
+           DER_CERTIFICATE_NAME_CONSTRAINTS_CRITICAL | DER_CERTIFICATE_NAME_CONSTRAINTS_ONLY_IN_CA, "nameConstraints, not critical");
     spoilt(octets, len, identifier.offset + 2, 36, DER_CERTIFICATE_POLICY_CONSTRAINTS_CRITICAL, "policyConstraints, the same");
     spoilt(octets, len, identifier.offset + 2, 54, DER_CERTIFICATE_INHIBIT_ANY_POLICY_CRITICAL, "inhibitAnyPolicy, the same");
     check(der_next_extension(octets, len, &left, &extension, &fault) == 0, "it has another");
@@ -71,16 +72,16 @@ static void lists(void)
                              0x30, 3, 6, 1, 42,                      /* signatureAlgorithm */
                              3, 1, 0};                               /* signatureValue */
     static const uint8_t another = 43;
-    uint32_t broken;
+    static const uint64_t absent = DER_LIST_NEXT_UPDATE_THERE | DER_LIST_AUTHORITY_HAS_KEY_IDENTIFIER | DER_LIST_CRL_NUMBER_THERE;
+    uint64_t broken;
     der_fault fault;
-    breaks(der_check_rfc5280_list, list, sizeof list, DER_LIST_NEXT_UPDATE_THERE, "a list with no nextUpdate");
+    breaks(der_check_rfc5280_list, list, sizeof list, absent, "a list with no nextUpdate and no extensions");
     list[sizeof list - 4] = another;
-    breaks(der_check_rfc5280_list, list, sizeof list, DER_LIST_NEXT_UPDATE_THERE | DER_LIST_ALGORITHMS_AGREE,
-           "and another algorithm outside");
+    breaks(der_check_rfc5280_list, list, sizeof list, absent | DER_LIST_ALGORITHMS_AGREE, "and another algorithm outside");
     FILL(broken);
     check(der_check_rfc5280(list, sizeof list, &broken, &fault) == fault.number && fault.number == DER_TAG_UNEXPECTED,
           "a list is no certificate");
-    IS_FILLED(broken, uint32_t);
+    IS_FILLED(broken, uint64_t);
 }
 
 int main(int argc, char **argv)

@@ -69,11 +69,12 @@ func TestRulesOfLists(t *testing.T) {
 	if err != nil {
 		t.Fatal(err)
 	}
-	if broken, err := CheckRFC5280List(octets); broken != ListNextUpdateIsThere || err != nil {
+	absent := ListNextUpdateIsThere | ListAuthorityHasKeyIdentifier | ListCrlNumberIsThere
+	if broken, err := CheckRFC5280List(octets); broken != absent || err != nil {
 		t.Errorf("%v, %v", broken, err)
 	}
 	octets[len(octets)-4]++
-	if broken, err := CheckRFC5280List(octets); broken != ListNextUpdateIsThere|ListAlgorithmsAgree || err != nil {
+	if broken, err := CheckRFC5280List(octets); broken != absent|ListAlgorithmsAgree || err != nil {
 		t.Errorf("%v, %v", broken, err)
 	}
 	if _, err := CheckRFC5280(octets); numberOf(err) != 4 {

@@ -306,14 +306,15 @@ class Calls(unittest.TestCase):
     def test_rules_of_lists(self) -> None:
         list_text = "302c3022300306012a300c310a300806035504030c0161170d3236303130313030303030305a300306012a030100"
         octets = bytearray.fromhex(list_text)
-        self.assertEqual(derproved.check_rfc5280_list(octets), derproved.ListRule.NEXT_UPDATE_IS_THERE)
+        rule = derproved.ListRule
+        absent = rule.NEXT_UPDATE_IS_THERE | rule.AUTHORITY_HAS_KEY_IDENTIFIER | rule.CRL_NUMBER_IS_THERE
+        self.assertEqual(derproved.check_rfc5280_list(octets), absent)
         octets[-4] += 1
-        broken = derproved.ListRule.NEXT_UPDATE_IS_THERE | derproved.ListRule.ALGORITHMS_AGREE
-        self.assertEqual(derproved.check_rfc5280_list(octets), broken)
+        self.assertEqual(derproved.check_rfc5280_list(octets), absent | rule.ALGORITHMS_AGREE)
         with self.assertRaises(derproved.Error) as caught:
             derproved.check_rfc5280(octets)
         self.assertEqual(caught.exception.args[0], 4)
-        self.assertEqual((len(derproved.CertificateRule), len(derproved.ListRule)), (18, 14))
+        self.assertEqual((len(derproved.CertificateRule), len(derproved.ListRule)), (45, 23))
 
     def test_any_octets_have_some_contents(self) -> None:
         for octets in [b"", b"0", b"\xff" * 9, bytes.fromhex("3084ffffffff")]:

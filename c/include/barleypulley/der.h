@@ -65,76 +65,144 @@ enum der_number {
 /* written by tools/bindings: rules */
 /* The rules of RFC 5280 for certificates beyond the grammar, as bits of what der_check_rfc5280 writes: a bit is 1
  * where the certificate breaks the rule. */
-enum der_certificate_rule {
-    /* the algorithm within is the one outside (4.1.1.2, 4.1.2.3) */
-    DER_CERTIFICATE_ALGORITHMS_AGREE = 1 << 0,
-    /* extensions stand in version 3 alone (4.1.2.1) */
-    DER_CERTIFICATE_EXTENSIONS_IN_VERSION_3 = 1 << 1,
-    /* the serial number is positive (4.1.2.2) */
-    DER_CERTIFICATE_SERIAL_NUMBER_POSITIVE = 1 << 2,
-    /* the serial number has at most 20 octets (4.1.2.2) */
-    DER_CERTIFICATE_SERIAL_NUMBER_AT_MOST_20_OCTETS = 1 << 3,
-    /* the issuer is not empty (4.1.2.4) */
-    DER_CERTIFICATE_ISSUER_NOT_EMPTY = 1 << 4,
-    /* beside an empty subject stands a subjectAltName that is critical (4.1.2.6) */
-    DER_CERTIFICATE_EMPTY_SUBJECT_HAS_CRITICAL_ALT_NAME = 1 << 5,
-    /* unique identifiers stand in version 2 and 3 alone (4.1.2.8) */
-    DER_CERTIFICATE_UNIQUE_IDENTIFIERS_IN_VERSION_2 = 1 << 6,
-    /* each extension stands once (4.2) */
-    DER_CERTIFICATE_EXTENSIONS_STAND_ONCE = 1 << 7,
-    /* authorityKeyIdentifier is not critical (4.2.1.1) */
-    DER_CERTIFICATE_AUTHORITY_KEY_IDENTIFIER_NOT_CRITICAL = 1 << 8,
-    /* subjectKeyIdentifier is not critical (4.2.1.2) */
-    DER_CERTIFICATE_SUBJECT_KEY_IDENTIFIER_NOT_CRITICAL = 1 << 9,
-    /* subjectDirectoryAttributes is not critical (4.2.1.8) */
-    DER_CERTIFICATE_SUBJECT_DIRECTORY_ATTRIBUTES_NOT_CRITICAL = 1 << 10,
-    /* freshestCRL is not critical (4.2.1.15) */
-    DER_CERTIFICATE_FRESHEST_CRL_NOT_CRITICAL = 1 << 11,
-    /* authorityInfoAccess is not critical (4.2.2.1) */
-    DER_CERTIFICATE_AUTHORITY_INFO_ACCESS_NOT_CRITICAL = 1 << 12,
-    /* subjectInfoAccess is not critical (4.2.2.2) */
-    DER_CERTIFICATE_SUBJECT_INFO_ACCESS_NOT_CRITICAL = 1 << 13,
-    /* basicConstraints of a CA is critical (4.2.1.9) */
-    DER_CERTIFICATE_BASIC_CONSTRAINTS_OF_CA_CRITICAL = 1 << 14,
-    /* nameConstraints is critical (4.2.1.10) */
-    DER_CERTIFICATE_NAME_CONSTRAINTS_CRITICAL = 1 << 15,
-    /* policyConstraints is critical (4.2.1.11) */
-    DER_CERTIFICATE_POLICY_CONSTRAINTS_CRITICAL = 1 << 16,
-    /* inhibitAnyPolicy is critical (4.2.1.14) */
-    DER_CERTIFICATE_INHIBIT_ANY_POLICY_CRITICAL = 1 << 17
-};
+/* the algorithm within is the one outside (4.1.1.2, 4.1.2.3) */
+#define DER_CERTIFICATE_ALGORITHMS_AGREE ((uint64_t)1 << 0)
+/* extensions stand in version 3 alone (4.1.2.1) */
+#define DER_CERTIFICATE_EXTENSIONS_IN_VERSION_3 ((uint64_t)1 << 1)
+/* the serial number is positive (4.1.2.2) */
+#define DER_CERTIFICATE_SERIAL_NUMBER_POSITIVE ((uint64_t)1 << 2)
+/* the serial number has at most 20 octets (4.1.2.2) */
+#define DER_CERTIFICATE_SERIAL_NUMBER_AT_MOST_20_OCTETS ((uint64_t)1 << 3)
+/* the issuer is not empty (4.1.2.4) */
+#define DER_CERTIFICATE_ISSUER_NOT_EMPTY ((uint64_t)1 << 4)
+/* beside an empty subject stands a subjectAltName that is critical (4.1.2.6) */
+#define DER_CERTIFICATE_EMPTY_SUBJECT_HAS_CRITICAL_ALT_NAME ((uint64_t)1 << 5)
+/* unique identifiers stand in version 2 and 3 alone (4.1.2.8) */
+#define DER_CERTIFICATE_UNIQUE_IDENTIFIERS_IN_VERSION_2 ((uint64_t)1 << 6)
+/* each extension stands once (4.2) */
+#define DER_CERTIFICATE_EXTENSIONS_STAND_ONCE ((uint64_t)1 << 7)
+/* authorityKeyIdentifier is not critical (4.2.1.1) */
+#define DER_CERTIFICATE_AUTHORITY_KEY_IDENTIFIER_NOT_CRITICAL ((uint64_t)1 << 8)
+/* subjectKeyIdentifier is not critical (4.2.1.2) */
+#define DER_CERTIFICATE_SUBJECT_KEY_IDENTIFIER_NOT_CRITICAL ((uint64_t)1 << 9)
+/* subjectDirectoryAttributes is not critical (4.2.1.8) */
+#define DER_CERTIFICATE_SUBJECT_DIRECTORY_ATTRIBUTES_NOT_CRITICAL ((uint64_t)1 << 10)
+/* freshestCRL is not critical (4.2.1.15) */
+#define DER_CERTIFICATE_FRESHEST_CRL_NOT_CRITICAL ((uint64_t)1 << 11)
+/* authorityInfoAccess is not critical (4.2.2.1) */
+#define DER_CERTIFICATE_AUTHORITY_INFO_ACCESS_NOT_CRITICAL ((uint64_t)1 << 12)
+/* subjectInfoAccess is not critical (4.2.2.2) */
+#define DER_CERTIFICATE_SUBJECT_INFO_ACCESS_NOT_CRITICAL ((uint64_t)1 << 13)
+/* basicConstraints of a CA is critical (4.2.1.9) */
+#define DER_CERTIFICATE_BASIC_CONSTRAINTS_OF_CA_CRITICAL ((uint64_t)1 << 14)
+/* nameConstraints is critical (4.2.1.10) */
+#define DER_CERTIFICATE_NAME_CONSTRAINTS_CRITICAL ((uint64_t)1 << 15)
+/* policyConstraints is critical (4.2.1.11) */
+#define DER_CERTIFICATE_POLICY_CONSTRAINTS_CRITICAL ((uint64_t)1 << 16)
+/* inhibitAnyPolicy is critical (4.2.1.14) */
+#define DER_CERTIFICATE_INHIBIT_ANY_POLICY_CRITICAL ((uint64_t)1 << 17)
+/* the version is 1, 2 or 3 (4.1.2.1) */
+#define DER_CERTIFICATE_VERSION_KNOWN ((uint64_t)1 << 18)
+/* notAfter is not before notBefore (4.1.2.5) */
+#define DER_CERTIFICATE_VALIDITY_NOT_EMPTY ((uint64_t)1 << 19)
+/* dates through 2049 are UTCTimes (4.1.2.5) */
+#define DER_CERTIFICATE_DATES_THROUGH_2049_ARE_UTC_TIMES ((uint64_t)1 << 20)
+/* the subject of a CA is not empty (4.1.2.6) */
+#define DER_CERTIFICATE_SUBJECT_OF_CA_NOT_EMPTY ((uint64_t)1 << 21)
+/* the texts of issuer and subject have the sizes of A.1 (A.1) */
+#define DER_CERTIFICATE_TEXTS_HAVE_SIZES ((uint64_t)1 << 22)
+/* the texts of issuer and subject have the string types of A.1 (A.1) */
+#define DER_CERTIFICATE_TEXTS_HAVE_STRING_TYPES ((uint64_t)1 << 23)
+/* printableStrings in issuer and subject have only their characters (B) */
+#define DER_CERTIFICATE_PRINTABLE_STRINGS_HAVE_THEIR_CHARACTERS ((uint64_t)1 << 24)
+/* ed25519, Ed448, X25519 and X448 have no parameters (RFC 8410 section 3) (4.1.1.2, 4.1.2.7) */
+#define DER_CERTIFICATE_CURVES_HAVE_NO_PARAMETERS ((uint64_t)1 << 25)
+/* a CA has a subjectKeyIdentifier (4.2.1.2) */
+#define DER_CERTIFICATE_CA_HAS_SUBJECT_KEY_IDENTIFIER ((uint64_t)1 << 26)
+/* authorityKeyIdentifier has a keyIdentifier, unless the issuer is the subject (4.2.1.1) */
+#define DER_CERTIFICATE_AUTHORITY_HAS_KEY_IDENTIFIER ((uint64_t)1 << 27)
+/* authorityCertIssuer and authorityCertSerialNumber stand together (A.2) */
+#define DER_CERTIFICATE_AUTHORITY_ISSUER_HAS_SERIAL_NUMBER ((uint64_t)1 << 28)
+/* a CA has a keyUsage (4.2.1.3) */
+#define DER_CERTIFICATE_CA_HAS_KEY_USAGE ((uint64_t)1 << 29)
+/* keyUsage has a bit that is set (4.2.1.3) */
+#define DER_CERTIFICATE_KEY_USAGE_HAS_A_BIT ((uint64_t)1 << 30)
+/* keyCertSign is set for a CA alone (4.2.1.3, 4.2.1.9) */
+#define DER_CERTIFICATE_KEY_CERT_SIGN_ONLY_IN_CA ((uint64_t)1 << 31)
+/* pathLenConstraint stands beside cA and keyCertSign alone (4.2.1.9) */
+#define DER_CERTIFICATE_PATH_LENGTH_ONLY_IN_CA ((uint64_t)1 << 32)
+/* nameConstraints stands in the certificate of a CA alone (4.2.1.10) */
+#define DER_CERTIFICATE_NAME_CONSTRAINTS_ONLY_IN_CA ((uint64_t)1 << 33)
+/* nameConstraints is not empty (4.2.1.10) */
+#define DER_CERTIFICATE_NAME_CONSTRAINTS_NOT_EMPTY ((uint64_t)1 << 34)
+/* the subtrees of nameConstraints have the minimum 0 and no maximum (4.2.1.10) */
+#define DER_CERTIFICATE_NAME_CONSTRAINTS_HAS_NO_DISTANCES ((uint64_t)1 << 35)
+/* the iPAddresses of nameConstraints have 8 or 32 octets (4.2.1.10) */
+#define DER_CERTIFICATE_CONSTRAINED_ADDRESSES_HAVE_8_OR_32_OCTETS ((uint64_t)1 << 36)
+/* policyConstraints is not empty (4.2.1.11) */
+#define DER_CERTIFICATE_POLICY_CONSTRAINTS_NOT_EMPTY ((uint64_t)1 << 37)
+/* each policy stands once (4.2.1.4) */
+#define DER_CERTIFICATE_POLICIES_STAND_ONCE ((uint64_t)1 << 38)
+/* anyPolicy is not mapped (4.2.1.5) */
+#define DER_CERTIFICATE_ANY_POLICY_NOT_MAPPED ((uint64_t)1 << 39)
+/* a dNSName of an alternative name has the preferred name syntax (4.2.1.6, 4.2.1.7) */
+#define DER_CERTIFICATE_DNS_NAMES_HAVE_SYNTAX ((uint64_t)1 << 40)
+/* an rfc822Name of an alternative name is a mailbox (4.2.1.6, 4.2.1.7) */
+#define DER_CERTIFICATE_MAILBOXES_HAVE_SYNTAX ((uint64_t)1 << 41)
+/* a URI of an alternative name has a scheme and a part after it (4.2.1.6, 4.2.1.7) */
+#define DER_CERTIFICATE_URIS_HAVE_SCHEMES ((uint64_t)1 << 42)
+/* an iPAddress of an alternative name has 4 or 16 octets (4.2.1.6, 4.2.1.7) */
+#define DER_CERTIFICATE_ADDRESSES_HAVE_4_OR_16_OCTETS ((uint64_t)1 << 43)
+/* each point of cRLDistributionPoints has a distributionPoint or a cRLIssuer (4.2.1.13) */
+#define DER_CERTIFICATE_POINTS_HAVE_NAMES ((uint64_t)1 << 44)
 
 /* The same for lists of revoked certificates, as bits of what der_check_rfc5280_list writes. */
-enum der_list_rule {
-    /* the algorithm within is the one outside (5.1.1.2, 5.1.2.2) */
-    DER_LIST_ALGORITHMS_AGREE = 1 << 0,
-    /* extensions, of the list or of an entry, stand in version 2 alone (5.1.2.1) */
-    DER_LIST_EXTENSIONS_IN_VERSION_2 = 1 << 1,
-    /* the issuer is not empty (5.1.2.3) */
-    DER_LIST_ISSUER_NOT_EMPTY = 1 << 2,
-    /* nextUpdate is there (5.1.2.5) */
-    DER_LIST_NEXT_UPDATE_THERE = 1 << 3,
-    /* a list of no revoked certificates is absent (5.1.2.6) */
-    DER_LIST_EMPTY_LIST_ABSENT = 1 << 4,
-    /* each extension of the list stands once (5.2, 4.2) */
-    DER_LIST_EXTENSIONS_STAND_ONCE = 1 << 5,
-    /* cRLNumber is not critical (5.2.3) */
-    DER_LIST_CRL_NUMBER_NOT_CRITICAL = 1 << 6,
-    /* deltaCRLIndicator is critical (5.2.4) */
-    DER_LIST_DELTA_CRL_INDICATOR_CRITICAL = 1 << 7,
-    /* issuingDistributionPoint is critical (5.2.5) */
-    DER_LIST_ISSUING_DISTRIBUTION_POINT_CRITICAL = 1 << 8,
-    /* freshestCRL is not critical (5.2.6) */
-    DER_LIST_FRESHEST_CRL_NOT_CRITICAL = 1 << 9,
-    /* authorityInfoAccess is not critical (5.2.7) */
-    DER_LIST_AUTHORITY_INFO_ACCESS_NOT_CRITICAL = 1 << 10,
-    /* reasonCode of an entry is not critical (5.3.1) */
-    DER_LIST_REASON_CODE_NOT_CRITICAL = 1 << 11,
-    /* invalidityDate of an entry is not critical (5.3.2) */
-    DER_LIST_INVALIDITY_DATE_NOT_CRITICAL = 1 << 12,
-    /* certificateIssuer of an entry is critical (5.3.3) */
-    DER_LIST_CERTIFICATE_ISSUER_CRITICAL = 1 << 13
-};
+/* the algorithm within is the one outside (5.1.1.2, 5.1.2.2) */
+#define DER_LIST_ALGORITHMS_AGREE ((uint64_t)1 << 0)
+/* extensions, of the list or of an entry, stand in version 2 alone (5.1.2.1) */
+#define DER_LIST_EXTENSIONS_IN_VERSION_2 ((uint64_t)1 << 1)
+/* the issuer is not empty (5.1.2.3) */
+#define DER_LIST_ISSUER_NOT_EMPTY ((uint64_t)1 << 2)
+/* nextUpdate is there (5.1.2.5) */
+#define DER_LIST_NEXT_UPDATE_THERE ((uint64_t)1 << 3)
+/* a list of no revoked certificates is absent (5.1.2.6) */
+#define DER_LIST_EMPTY_LIST_ABSENT ((uint64_t)1 << 4)
+/* each extension of the list stands once (5.2, 4.2) */
+#define DER_LIST_EXTENSIONS_STAND_ONCE ((uint64_t)1 << 5)
+/* cRLNumber is not critical (5.2.3) */
+#define DER_LIST_CRL_NUMBER_NOT_CRITICAL ((uint64_t)1 << 6)
+/* deltaCRLIndicator is critical (5.2.4) */
+#define DER_LIST_DELTA_CRL_INDICATOR_CRITICAL ((uint64_t)1 << 7)
+/* issuingDistributionPoint is critical (5.2.5) */
+#define DER_LIST_ISSUING_DISTRIBUTION_POINT_CRITICAL ((uint64_t)1 << 8)
+/* freshestCRL is not critical (5.2.6) */
+#define DER_LIST_FRESHEST_CRL_NOT_CRITICAL ((uint64_t)1 << 9)
+/* authorityInfoAccess is not critical (5.2.7) */
+#define DER_LIST_AUTHORITY_INFO_ACCESS_NOT_CRITICAL ((uint64_t)1 << 10)
+/* reasonCode of an entry is not critical (5.3.1) */
+#define DER_LIST_REASON_CODE_NOT_CRITICAL ((uint64_t)1 << 11)
+/* invalidityDate of an entry is not critical (5.3.2) */
+#define DER_LIST_INVALIDITY_DATE_NOT_CRITICAL ((uint64_t)1 << 12)
+/* certificateIssuer of an entry is critical (5.3.3) */
+#define DER_LIST_CERTIFICATE_ISSUER_CRITICAL ((uint64_t)1 << 13)
+/* the version is 2 or absent (5.1.2.1) */
+#define DER_LIST_VERSION_2 ((uint64_t)1 << 14)
+/* dates through 2049 are UTCTimes (5.1.2.4, 5.1.2.5) */
+#define DER_LIST_DATES_THROUGH_2049_ARE_UTC_TIMES ((uint64_t)1 << 15)
+/* authorityKeyIdentifier has a keyIdentifier (5.2.1) */
+#define DER_LIST_AUTHORITY_HAS_KEY_IDENTIFIER ((uint64_t)1 << 16)
+/* cRLNumber is there (5.2.3) */
+#define DER_LIST_CRL_NUMBER_THERE ((uint64_t)1 << 17)
+/* cRLNumber is not negative, and has at most 20 octets (5.2.3) */
+#define DER_LIST_CRL_NUMBER_HAS_AT_MOST_20_OCTETS ((uint64_t)1 << 18)
+/* issuingDistributionPoint is not empty (5.2.5) */
+#define DER_LIST_ISSUING_DISTRIBUTION_POINT_NOT_EMPTY ((uint64_t)1 << 19)
+/* issuingDistributionPoint has at most one kind of certificates (5.2.5) */
+#define DER_LIST_ISSUING_DISTRIBUTION_POINT_HAS_ONE_KIND ((uint64_t)1 << 20)
+/* each extension of an entry stands once (5.3, 4.2) */
+#define DER_LIST_ENTRY_EXTENSIONS_STAND_ONCE ((uint64_t)1 << 21)
+/* removeFromCRL stands in a delta list alone (5.3.1) */
+#define DER_LIST_REMOVE_FROM_CRL_ONLY_IN_DELTA ((uint64_t)1 << 22)
 /* end of rules */
 
 /* The kinds of a GeneralName (RFC 5280 4.2.1.6): the numbers of their tags. */
@@ -1026,12 +1094,12 @@ size_t der_object_identifier_text(const uint8_t *contents, size_t len, char *buf
 /* Whether this text is that of the contents octets; 0 for a text of 256 characters or more. */
 int der_object_identifier_is(const uint8_t *contents, size_t len, const char *dotted);
 
-/* Reads all octets as a certificate, and writes which rules of RFC 5280 it breaks: 0, or the sum of bits of
- * der_certificate_rule. No path, no signature and no other rule is checked. */
-uint32_t der_check_rfc5280(const uint8_t *octets, size_t len, uint32_t *broken, der_fault *fault);
+/* Reads all octets as a certificate, and writes which rules of RFC 5280 it breaks: 0, or the sum of the
+ * bits DER_CERTIFICATE_. No path, no signature and no other rule is checked. */
+uint32_t der_check_rfc5280(const uint8_t *octets, size_t len, uint64_t *broken, der_fault *fault);
 
-/* Reads all octets as a certificate revocation list, and writes which rules it breaks, as bits of der_list_rule. */
-uint32_t der_check_rfc5280_list(const uint8_t *octets, size_t len, uint32_t *broken, der_fault *fault);
+/* Reads all octets as a certificate revocation list, and writes which rules it breaks, as bits DER_LIST_. */
+uint32_t der_check_rfc5280_list(const uint8_t *octets, size_t len, uint64_t *broken, der_fault *fault);
 
 /* Reads all octets as a value of the type with a name. Writes the value's one encoding to the front of a buffer, and its
  * length to `written`. If the buffer is too short (103), only `written` is written, with the length that is enough; so a

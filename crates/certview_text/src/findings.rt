@@ -5,9 +5,10 @@ use certview_parts::field_name::FieldName;
 use certview_parts::place::{Place, nowhere};
 use certview_parts::printer::Printer;
 use der_extensions::extension::constants::{
-    ID_CE_AUTHORITY_KEY_IDENTIFIER, ID_CE_BASIC_CONSTRAINTS, ID_CE_CRL_NUMBER,
-    ID_CE_DELTA_CRL_INDICATOR, ID_CE_FRESHEST_CRL, ID_CE_INHIBIT_ANY_POLICY,
-    ID_CE_ISSUING_DISTRIBUTION_POINT, ID_CE_NAME_CONSTRAINTS, ID_CE_POLICY_CONSTRAINTS,
+    ID_CE_AUTHORITY_KEY_IDENTIFIER, ID_CE_BASIC_CONSTRAINTS, ID_CE_CERTIFICATE_POLICIES,
+    ID_CE_CRL_DISTRIBUTION_POINTS, ID_CE_CRL_NUMBER, ID_CE_DELTA_CRL_INDICATOR, ID_CE_FRESHEST_CRL,
+    ID_CE_INHIBIT_ANY_POLICY, ID_CE_ISSUING_DISTRIBUTION_POINT, ID_CE_KEY_USAGE,
+    ID_CE_NAME_CONSTRAINTS, ID_CE_POLICY_CONSTRAINTS, ID_CE_POLICY_MAPPINGS,
     ID_CE_SUBJECT_DIRECTORY_ATTRIBUTES, ID_CE_SUBJECT_KEY_IDENTIFIER, ID_PE_AUTHORITY_INFO_ACCESS,
     ID_PE_SUBJECT_INFO_ACCESS,
 };
@@ -102,10 +103,12 @@ fn place_in_certificate(
     field: &str,
 ) -> Place {
     match field {
+        "tbsCertificate" => at.tbs_certificate,
         "signatureAlgorithm" => at.signature_algorithm,
         "version" => within.version,
         "serialNumber" => within.serial_number,
         "issuer" => within.issuer,
+        "validity" => within.validity,
         "subject" => within.subject,
         "extensions" => within.extensions,
         _ => nowhere(),
@@ -115,6 +118,7 @@ fn place_in_certificate(
 /// Returns the byte range of the list's field with this name.
 fn place_in_list(at: &CertificateListPlaces, within: &TbsCertListPlaces, field: &str) -> Place {
     match field {
+        "tbsCertList" => at.tbs_cert_list,
         "signatureAlgorithm" => at.signature_algorithm,
         "version" => within.version,
         "issuer" => within.issuer,
@@ -185,6 +189,19 @@ fn is_not_critical(field: &'static str, extension: &'static [u8]) -> Finding {
     }
 }
 
+/// Returns the finding for an extension that breaks a rule.
+fn of_extension(
+    field: &'static str,
+    extension: &'static [u8],
+    words: &'static str,
+) -> Finding {
+    Finding {
+        field,
+        extension,
+        words,
+    }
+}
+
 /// Returns the finding for a rule that a certificate breaks.
 fn certificate_finding(rule: CertificateRule) -> Finding {
     match rule {
@@ -209,6 +226,125 @@ fn certificate_finding(rule: CertificateRule) -> Finding {
         CertificateRule::BasicConstraintsOfCaIsCritical => {
             is_not_critical("basicConstraints", &ID_CE_BASIC_CONSTRAINTS)
         }
+        _ => certificate_field(rule),
+    }
+}
+
+fn certificate_field(rule: CertificateRule) -> Finding {
+    match rule {
+        CertificateRule::VersionIsKnown => of_field("version", "is neither 1, 2 nor 3"),
+        CertificateRule::ValidityIsNotEmpty => of_field("validity", "ends before it begins"),
+        CertificateRule::DatesThrough2049AreUtcTimes => {
+            of_field("validity", "has a date through 2049 as a GeneralizedTime")
+        }
+        CertificateRule::SubjectOfCaIsNotEmpty => of_field("subject", "of a CA is empty"),
+        CertificateRule::TextsHaveSizes => of_field(
+            "tbsCertificate",
+            "has a name with a text that is too long or too short",
+        ),
+        CertificateRule::TextsHaveStringTypes => {
+            of_field("tbsCertificate", "has a name with a text in another string type")
+        }
+        CertificateRule::PrintableStringsHaveTheirCharacters => of_field(
+            "tbsCertificate",
+            "has a name with a PrintableString of other characters",
+        ),
+        CertificateRule::CurvesHaveNoParameters => of_field(
+            "tbsCertificate",
+            "has parameters of an algorithm of RFC 8410",
+        ),
+        CertificateRule::MailboxesHaveSyntax => {
+            of_field("extensions", "have an rfc822Name that is no mailbox")
+        }
+        CertificateRule::DnsNamesHaveSyntax => {
+            of_field("extensions", "have a dNSName that is no name of a host")
+        }
+        CertificateRule::UrisHaveSchemes => {
+            of_field("extensions", "have a URI with no scheme, or nothing after it")
+        }
+        CertificateRule::AddressesHave4Or16Octets => of_field(
+            "extensions",
+            "have an iPAddress of neither 4 nor 16 octets",
+        ),
+        _ => certificate_usage(rule),
+    }
+}
+
+fn certificate_usage(rule: CertificateRule) -> Finding {
+    let authority = "authorityKeyIdentifier";
+    match rule {
+        CertificateRule::CaHasSubjectKeyIdentifier => of_extension(
+            "subjectKeyIdentifier",
+            &ID_CE_SUBJECT_KEY_IDENTIFIER,
+            "of a CA is absent",
+        ),
+        CertificateRule::AuthorityHasKeyIdentifier => of_extension(
+            authority,
+            &ID_CE_AUTHORITY_KEY_IDENTIFIER,
+            "has no keyIdentifier",
+        ),
+        CertificateRule::AuthorityIssuerHasSerialNumber => of_extension(
+            authority,
+            &ID_CE_AUTHORITY_KEY_IDENTIFIER,
+            "has an issuer or a serial number alone",
+        ),
+        CertificateRule::CaHasKeyUsage => {
+            of_extension("keyUsage", &ID_CE_KEY_USAGE, "of a CA is absent")
+        }
+        CertificateRule::KeyUsageHasABit => {
+            of_extension("keyUsage", &ID_CE_KEY_USAGE, "has no bit that is set")
+        }
+        CertificateRule::KeyCertSignOnlyInCa => of_extension(
+            "keyUsage",
+            &ID_CE_KEY_USAGE,
+            "has keyCertSign, and cA is not TRUE",
+        ),
+        CertificateRule::PathLengthOnlyInCa => of_extension(
+            "basicConstraints",
+            &ID_CE_BASIC_CONSTRAINTS,
+            "has pathLenConstraint without cA and keyCertSign",
+        ),
+        _ => certificate_constraint(rule),
+    }
+}
+
+fn certificate_constraint(rule: CertificateRule) -> Finding {
+    let names = "nameConstraints";
+    match rule {
+        CertificateRule::NameConstraintsOnlyInCa => of_extension(
+            names,
+            &ID_CE_NAME_CONSTRAINTS,
+            "is there, and cA is not TRUE",
+        ),
+        CertificateRule::NameConstraintsIsNotEmpty => {
+            of_extension(names, &ID_CE_NAME_CONSTRAINTS, "is empty")
+        }
+        CertificateRule::NameConstraintsHasNoDistances => of_extension(
+            names,
+            &ID_CE_NAME_CONSTRAINTS,
+            "has a minimum or a maximum",
+        ),
+        CertificateRule::ConstrainedAddressesHave8Or32Octets => of_extension(
+            names,
+            &ID_CE_NAME_CONSTRAINTS,
+            "has an iPAddress of neither 8 nor 32 octets",
+        ),
+        CertificateRule::PolicyConstraintsIsNotEmpty => {
+            of_extension("policyConstraints", &ID_CE_POLICY_CONSTRAINTS, "is empty")
+        }
+        CertificateRule::PoliciesStandOnce => of_extension(
+            "certificatePolicies",
+            &ID_CE_CERTIFICATE_POLICIES,
+            "has a policy twice",
+        ),
+        CertificateRule::AnyPolicyIsNotMapped => {
+            of_extension("policyMappings", &ID_CE_POLICY_MAPPINGS, "maps anyPolicy")
+        }
+        CertificateRule::PointsHaveNames => of_extension(
+            "cRLDistributionPoints",
+            &ID_CE_CRL_DISTRIBUTION_POINTS,
+            "has a point with no distributionPoint and no cRLIssuer",
+        ),
         _ => certificate_criticality(rule),
     }
 }
@@ -268,6 +404,43 @@ fn list_finding(rule: ListRule) -> Finding {
         ListRule::CertificateIssuerIsCritical => of_field(
             "revokedCertificates",
             "has a certificateIssuer that is not critical",
+        ),
+        _ => list_value(rule),
+    }
+}
+
+fn list_value(rule: ListRule) -> Finding {
+    let point = "issuingDistributionPoint";
+    match rule {
+        ListRule::VersionIs2 => of_field("version", "is not 2"),
+        ListRule::DatesThrough2049AreUtcTimes => {
+            of_field("tbsCertList", "has a date through 2049 as a GeneralizedTime")
+        }
+        ListRule::AuthorityHasKeyIdentifier => of_extension(
+            "authorityKeyIdentifier",
+            &ID_CE_AUTHORITY_KEY_IDENTIFIER,
+            "has no keyIdentifier",
+        ),
+        ListRule::CrlNumberIsThere => of_extension("cRLNumber", &ID_CE_CRL_NUMBER, "is absent"),
+        ListRule::CrlNumberHasAtMost20Octets => of_extension(
+            "cRLNumber",
+            &ID_CE_CRL_NUMBER,
+            "is negative or has more than 20 octets",
+        ),
+        ListRule::IssuingDistributionPointIsNotEmpty => {
+            of_extension(point, &ID_CE_ISSUING_DISTRIBUTION_POINT, "is empty")
+        }
+        ListRule::IssuingDistributionPointHasOneKind => of_extension(
+            point,
+            &ID_CE_ISSUING_DISTRIBUTION_POINT,
+            "has two kinds of certificates",
+        ),
+        ListRule::EntryExtensionsStandOnce => {
+            of_field("revokedCertificates", "has an entry with an extension twice")
+        }
+        ListRule::RemoveFromCrlOnlyInDelta => of_field(
+            "revokedCertificates",
+            "has removeFromCRL, and the list is no delta list",
         ),
         _ => list_criticality(rule),
     }

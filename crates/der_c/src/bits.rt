@@ -5,10 +5,11 @@ ghost use Rattle.der_c.specs.Bits.{bit, bits_before};
 
 /// Returns the flags as the bits of a number. The flags are given from the last, which is the
 /// greatest bit, to the first, which is 1.
-pub(crate) fn number_of_flags(flags: &[bool]) -> u32
-    ensures { length flags.now < 32 → result ≡ bits_before 0 flags.now }
+pub(crate) fn number_of_flags(flags: &[bool]) -> u64
+    ensures value { length flags.now < 64 → result ≡ bits_before 0 flags.now }
+    ensures few { length flags.now < 64 → result < 2 ^ length flags.now }
 {
-    let mut bits = 0;
+    let mut bits: u64 = 0;
     let mut left = flags;
     'each: while let [flag, others @ ..] = left {
         bits = with_flag(bits, *flag);
@@ -25,8 +26,8 @@ pub(crate) fn number_of_flag(flag: bool) -> u32
 }
 
 /// Returns the number of a flag and the flags after it, which are `bits`.
-fn with_flag(bits: u32, flag: bool) -> u32
-    ensures { bit flag + 2 * bits < 2 ^ 32 → result ≡ bit flag + 2 * bits }
+fn with_flag(bits: u64, flag: bool) -> u64
+    ensures { bit flag + 2 * bits < 2 ^ 64 → result ≡ bit flag + 2 * bits }
 {
-    bits.saturating_mul(2).saturating_add(u32::from(flag))
+    bits.saturating_mul(2).saturating_add(u64::from(flag))
 }

@@ -29,7 +29,7 @@ use std::alloc::Global;
 pub extern "C" fn der_check_rfc5280<'a>(
     alloc: Global,
     octets: &'a [u8],
-    broken: &mut u32,
+    broken: &mut u64,
     fault: &mut Fault,
 ) -> u32
     ensures { Answers ⟦<Certificate<'a> as Form>⟧ octets.now
@@ -47,11 +47,38 @@ pub extern "C" fn der_check_rfc5280<'a>(
 }
 
 /// Returns the rules that a certificate breaks, as bits.
-fn broken_by_certificate<'a>(alloc: Global, value: &Certificate<'a>) -> u32
+fn broken_by_certificate<'a>(alloc: Global, value: &Certificate<'a>) -> u64
     ensures { (listed : List Extension) → AreListed ⟦<Extension<'a> as Form>⟧ (tbs_fields.extensions (certificate_fields.tbs_certificate value.now)) listed
         → result ≡ bits (map (λ r. breaks r value.now listed) certificate_rules) }
 {
     number_of_flags(&[
+        CertificateRule::PointsHaveNames.is_broken(alloc, value),
+        CertificateRule::AddressesHave4Or16Octets.is_broken(alloc, value),
+        CertificateRule::UrisHaveSchemes.is_broken(alloc, value),
+        CertificateRule::MailboxesHaveSyntax.is_broken(alloc, value),
+        CertificateRule::DnsNamesHaveSyntax.is_broken(alloc, value),
+        CertificateRule::AnyPolicyIsNotMapped.is_broken(alloc, value),
+        CertificateRule::PoliciesStandOnce.is_broken(alloc, value),
+        CertificateRule::PolicyConstraintsIsNotEmpty.is_broken(alloc, value),
+        CertificateRule::ConstrainedAddressesHave8Or32Octets.is_broken(alloc, value),
+        CertificateRule::NameConstraintsHasNoDistances.is_broken(alloc, value),
+        CertificateRule::NameConstraintsIsNotEmpty.is_broken(alloc, value),
+        CertificateRule::NameConstraintsOnlyInCa.is_broken(alloc, value),
+        CertificateRule::PathLengthOnlyInCa.is_broken(alloc, value),
+        CertificateRule::KeyCertSignOnlyInCa.is_broken(alloc, value),
+        CertificateRule::KeyUsageHasABit.is_broken(alloc, value),
+        CertificateRule::CaHasKeyUsage.is_broken(alloc, value),
+        CertificateRule::AuthorityIssuerHasSerialNumber.is_broken(alloc, value),
+        CertificateRule::AuthorityHasKeyIdentifier.is_broken(alloc, value),
+        CertificateRule::CaHasSubjectKeyIdentifier.is_broken(alloc, value),
+        CertificateRule::CurvesHaveNoParameters.is_broken(alloc, value),
+        CertificateRule::PrintableStringsHaveTheirCharacters.is_broken(alloc, value),
+        CertificateRule::TextsHaveStringTypes.is_broken(alloc, value),
+        CertificateRule::TextsHaveSizes.is_broken(alloc, value),
+        CertificateRule::SubjectOfCaIsNotEmpty.is_broken(alloc, value),
+        CertificateRule::DatesThrough2049AreUtcTimes.is_broken(alloc, value),
+        CertificateRule::ValidityIsNotEmpty.is_broken(alloc, value),
+        CertificateRule::VersionIsKnown.is_broken(alloc, value),
         CertificateRule::InhibitAnyPolicyIsCritical.is_broken(alloc, value),
         CertificateRule::PolicyConstraintsIsCritical.is_broken(alloc, value),
         CertificateRule::NameConstraintsIsCritical.is_broken(alloc, value),
@@ -82,7 +109,7 @@ fn broken_by_certificate<'a>(alloc: Global, value: &Certificate<'a>) -> u32
 pub extern "C" fn der_check_rfc5280_list<'a>(
     alloc: Global,
     octets: &'a [u8],
-    broken: &mut u32,
+    broken: &mut u64,
     fault: &mut Fault,
 ) -> u32
     ensures { Answers ⟦<CertificateList<'a> as Form>⟧ octets.now
@@ -102,13 +129,22 @@ pub extern "C" fn der_check_rfc5280_list<'a>(
 }
 
 /// Returns the rules that a list breaks, as bits.
-fn broken_by_list<'a>(alloc: Global, value: &CertificateList<'a>) -> u32
+fn broken_by_list<'a>(alloc: Global, value: &CertificateList<'a>) -> u64
     ensures { (listed : List Extension) (entries : List (Option (List Extension)))
         → AreListed ⟦<Extension<'a> as Form>⟧ (tbs_list_fields.crl_extensions (list_fields.tbs_cert_list value.now)) listed
         → AreEntries ⟦<RevokedCertificate<'a> as Form>⟧ ⟦<Extension<'a> as Form>⟧ (tbs_list_fields.revoked_certificates (list_fields.tbs_cert_list value.now)) entries
         → result ≡ bits (map (λ r. list_breaks r value.now listed entries) list_rules) }
 {
     number_of_flags(&[
+        ListRule::RemoveFromCrlOnlyInDelta.is_broken(alloc, value),
+        ListRule::EntryExtensionsStandOnce.is_broken(alloc, value),
+        ListRule::IssuingDistributionPointHasOneKind.is_broken(alloc, value),
+        ListRule::IssuingDistributionPointIsNotEmpty.is_broken(alloc, value),
+        ListRule::CrlNumberHasAtMost20Octets.is_broken(alloc, value),
+        ListRule::CrlNumberIsThere.is_broken(alloc, value),
+        ListRule::AuthorityHasKeyIdentifier.is_broken(alloc, value),
+        ListRule::DatesThrough2049AreUtcTimes.is_broken(alloc, value),
+        ListRule::VersionIs2.is_broken(alloc, value),
         ListRule::CertificateIssuerIsCritical.is_broken(alloc, value),
         ListRule::InvalidityDateIsNotCritical.is_broken(alloc, value),
         ListRule::ReasonCodeIsNotCritical.is_broken(alloc, value),

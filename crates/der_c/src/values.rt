@@ -126,7 +126,7 @@ fn number_of_bits(value: NamedBitsRef<'_>) -> u32
         value.has(2),
         value.has(1),
         value.has(0),
-    ])
+    ]) as u32
 }
 
 /// Reads all octets as a GeneralName (RFC 5280 4.2.1.6), and writes the number of its tag: 0 for

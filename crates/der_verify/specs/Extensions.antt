@@ -1,11 +1,12 @@
 -- Extensions by their identifiers (RFC 5280 4.2).
-use Rattle.std.specs.Prelude.{◌≡◌, ℕ, nat_eq, List, [], ◌∷◌, filter, Bool, Option, Some, None, Result, Ok, Err}
+use Rattle.std.specs.Prelude.{◌≡◌, ℕ, nat_eq, List, [], ◌∷◌, filter, Bool, if◌then◌else◌, Option, Some, None, Result, Ok, Err}
 use Rattle.std.specs.Cmp.Lexicographic.{pointwise}
 use Rattle.der_tlv.specs.declared.error.ErrorKind.TheVariants.{Value}
 use Rattle.der_tlv.specs.declared.tag.Tag.TheVariants.{Sequence}
 use Rattle.der_tlv.specs.declared.error.Error.{Error}
 use Rattle.der_elem.specs.declared.form.Form as form
 use Rattle.der_opaque.specs.ObjectIdentifierRef.{octets_of}
+use Rattle.der_opaque.specs.OctetStringRef as string
 use Rattle.der_lists.specs.Items.{AreItems}
 use Rattle.der_lists.specs.ListRef as list
 use Rattle.der_pkix.specs.declared.certificate.extension.Extension.{Extension}
@@ -31,3 +32,8 @@ FindsOne F [] (Ok None) = Unit {0}
 FindsOne F (e ∷ []) (Ok (Some found)) = F.encoding found ≡ F.encoding e
 FindsOne F (e ∷ (f ∷ others)) (Err error) = error.kind ≡ Value Sequence
 FindsOne F _ _ = ⊥
+
+-- the octets of the value of the first extension with an identifier; none if no extension has it
+abbrev pub value_of : List ℕ → List Extension → List ℕ
+value_of identifier [] = []
+value_of identifier (e ∷ others) = if has_identifier identifier e then string.octets_of (extension_fields.extn_value e) else value_of identifier others

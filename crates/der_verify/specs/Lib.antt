@@ -1,6 +1,9 @@
+pub mod Alternatives
 pub mod Bounds
+pub mod Elements
 pub mod EqualEncodings
 pub mod Extensions
+pub mod Inside
 pub mod Names
 pub mod Rfc5280
 pub mod Rfc5280Lists
@@ -9,4 +12,5 @@ pub mod Shown
 pub mod Signed
 pub mod Sizes
 pub mod Text
+pub mod Texts
 pub mod Time

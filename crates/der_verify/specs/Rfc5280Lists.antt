@@ -6,6 +6,7 @@ use Rattle.der_lists.specs.ListRef as list_ref
 use Rattle.der_lists.specs.declared.list_ref.ListRef.{ListRef}
 use Rattle.der_pkix.specs.declared.certificate.extension.Extension.{Extension}
 use Rattle.der_pkix.specs.declared.certificate.extensions.Extensions.{Extensions}
+use Rattle.der_pkix.specs.declared.certificate.time.Time.{Time}
 use Rattle.der_pkix.specs.declared.crl.certificate_list.CertificateList.{CertificateList}
 use Rattle.der_pkix.specs.declared.crl.tbs_cert_list.TbsCertList.{TbsCertList}
 use Rattle.der_pkix.specs.declared.crl.revoked_certificate.RevokedCertificate.{RevokedCertificate}
@@ -13,9 +14,11 @@ use Rattle.der_pkix.specs.contracts.algorithm_identifier.AlgorithmIdentifierPart
 use Rattle.der_pkix.specs.Crl.CertificateList as list
 use Rattle.der_pkix.specs.Crl.TbsCertList as tbs
 use Rattle.der_pkix.specs.Crl.RevokedCertificate as entry
-use Rattle.der_verify.specs.Extensions.{AreExtensions}
-use Rattle.der_verify.specs.Rfc5280.{breaks_criticality, has_criticality, has_repeated, id_ce, id_pe, is_empty_name}
+use Rattle.der_verify.specs.Extensions.{value_of, AreExtensions}
+use Rattle.der_verify.specs.Inside.{has_key_identifier, has_two_kinds, is_empty_sequence, is_odd_number, is_removed}
+use Rattle.der_verify.specs.Rfc5280.{breaks_criticality, has_criticality, has_repeated, id_ce, id_pe, is_absent, is_empty_name}
 use Rattle.der_verify.specs.Shown.{AreShown}
+use Rattle.der_verify.specs.Time.{is_early}
 use Rattle.der_verify.specs.declared.rfc5280.lists.ListRule.{ListRule}
 use Rattle.der_verify.specs.declared.rfc5280.lists.ListRule.TheVariants as rule
 
@@ -71,6 +74,46 @@ forbidden_of_entry rule.InvalidityDateIsNotCritical = Some (id_ce 24, true)
 forbidden_of_entry rule.CertificateIssuerIsCritical = Some (id_ce 29, false)
 forbidden_of_entry _ = None
 
+-- whether an entry repeats an extension
+abbrev pub has_repeated_within : Option (List Extension) → Bool
+has_repeated_within None = false
+has_repeated_within (Some items) = has_repeated items
+
+-- whether the reason of an entry is removeFromCRL
+abbrev pub is_removed_within : Option (List Extension) → Bool
+is_removed_within None = false
+is_removed_within (Some items) = is_removed (value_of (id_ce 21) items)
+
+-- the version is another than 2 (1)
+abbrev pub is_other_version : Option ℕ → Bool
+is_other_version None = false
+is_other_version (Some n) = not (n == 1)
+
+-- the date, if there is one, is through 2049 and a GeneralizedTime
+abbrev pub is_early_if_there : Option Time → Bool
+is_early_if_there None = false
+is_early_if_there (Some time) = is_early time
+
+-- whether a list with these extensions and these entries breaks a rule about values
+abbrev pub list_breaks_inside : ListRule → TbsCertList → List Extension → List (Option (List Extension)) → Bool
+-- 5.1.2.1: "this field MUST be present and MUST specify version 2"; A.1: "if present, MUST be v2"
+list_breaks_inside rule.VersionIs2 c listed entries = is_other_version (tbs.version c)
+-- 5.1.2.4, 5.1.2.5: "CRL issuers conforming to this profile MUST encode thisUpdate as UTCTime for dates through the year 2049"
+list_breaks_inside rule.DatesThrough2049AreUtcTimes c listed entries = is_early (tbs.this_update c) || is_early_if_there (tbs.next_update c)
+-- 5.2.1: "Conforming CRL issuers MUST use the key identifier method, and MUST include this extension in all CRLs issued."
+list_breaks_inside rule.AuthorityHasKeyIdentifier c listed entries = not (has_key_identifier (value_of (id_ce 35) listed))
+-- 5.2.3: "MUST include this extension in all CRLs"; "MUST NOT use CRLNumber values longer than 20 octets"
+list_breaks_inside rule.CrlNumberIsThere c listed entries = is_absent (value_of (id_ce 20) listed)
+list_breaks_inside rule.CrlNumberHasAtMost20Octets c listed entries = is_odd_number (value_of (id_ce 20) listed)
+-- 5.2.5: the extension is not "an empty sequence"; "at most one of onlyContainsUserCerts, onlyContainsCACerts, and onlyContainsAttributeCerts may be set to TRUE"
+list_breaks_inside rule.IssuingDistributionPointIsNotEmpty c listed entries = is_empty_sequence (value_of (id_ce 28) listed)
+list_breaks_inside rule.IssuingDistributionPointHasOneKind c listed entries = has_two_kinds (value_of (id_ce 28) listed)
+-- 5.3, 4.2: no extension of an entry is repeated
+list_breaks_inside rule.EntryExtensionsStandOnce c listed entries = list_any has_repeated_within entries
+-- 5.3.1: "The removeFromCRL (8) reasonCode value may only appear in delta CRLs"
+list_breaks_inside rule.RemoveFromCrlOnlyInDelta c listed entries = is_absent (value_of (id_ce 27) listed) && list_any is_removed_within entries
+list_breaks_inside _ c listed entries = false
+
 -- whether a list with these extensions and these entries breaks one of the other rules
 abbrev pub list_breaks_otherwise : ListRule → TbsCertList → List Extension → List (Option (List Extension)) → Bool
 -- 5.1.2.1: only version 2 has extensions
@@ -83,7 +126,7 @@ list_breaks_otherwise rule.NextUpdateIsThere c listed entries = is_none (tbs.nex
 list_breaks_otherwise rule.EmptyListIsAbsent c listed entries = is_empty_list (tbs.revoked_certificates c)
 -- 5.2, 4.2: no extension is repeated
 list_breaks_otherwise rule.ExtensionsStandOnce c listed entries = has_repeated listed
-list_breaks_otherwise _ c listed entries = false
+list_breaks_otherwise r c listed entries = list_breaks_inside r c listed entries
 
 -- whether an extension of an entry has a criticality that a rule forbids
 abbrev pub entry_breaks_criticality : Option (List ℕ × Bool) → List (Option (List Extension)) → Bool
@@ -121,4 +164,13 @@ list_rules =
     ∷ rule.AuthorityInfoAccessIsNotCritical
     ∷ rule.ReasonCodeIsNotCritical
     ∷ rule.InvalidityDateIsNotCritical
-    ∷ rule.CertificateIssuerIsCritical ∷ []
+    ∷ rule.CertificateIssuerIsCritical
+    ∷ rule.VersionIs2
+    ∷ rule.DatesThrough2049AreUtcTimes
+    ∷ rule.AuthorityHasKeyIdentifier
+    ∷ rule.CrlNumberIsThere
+    ∷ rule.CrlNumberHasAtMost20Octets
+    ∷ rule.IssuingDistributionPointIsNotEmpty
+    ∷ rule.IssuingDistributionPointHasOneKind
+    ∷ rule.EntryExtensionsStandOnce
+    ∷ rule.RemoveFromCrlOnlyInDelta ∷ []

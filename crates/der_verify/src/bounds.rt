@@ -53,7 +53,7 @@ fn most(type_: &[u8]) -> usize
 
 /// Returns whether an identifier is 2.5.4 and one of these numbers.
 #[tactic(auto, unfolding(crate::specs::Bounds::is_id_at))]
-fn is_id_at(numbers: &[u8], type_: &[u8]) -> bool
+pub(crate) fn is_id_at(numbers: &[u8], type_: &[u8]) -> bool
     ensures { result ≡ is_id_at numbers.now type_.now }
 {
     let mut left = numbers;

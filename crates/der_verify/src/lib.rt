@@ -3,6 +3,7 @@
 #![tactic(auto)]
 
 mod bounds;
+mod elements;
 mod extensions;
 mod names;
 mod rfc5280;

@@ -1,8 +1,14 @@
 //! The rules of RFC 5280 for certificates beyond the grammar (sections 4.1 and 4.2). A
 //! certificate that is read may break them; a verifier checks them here.
 
+mod alternatives;
+mod fields;
+mod inside;
 mod lists;
 mod repeated;
+mod texts;
+mod usage;
+mod values;
 
 ghost use Rattle.std.specs.Prelude.{◌≡◌, ◌||◌, ◌↔◌, List, filter, is_some, IfOk, IsTrue};
 ghost use Rattle.std.specs.List.{list_any};
@@ -70,10 +76,64 @@ pub enum CertificateRule {
     PolicyConstraintsIsCritical,
     /// inhibitAnyPolicy is critical (4.2.1.14).
     InhibitAnyPolicyIsCritical,
+    /// The version is 1, 2 or 3 (4.1.2.1).
+    VersionIsKnown,
+    /// notAfter is not before notBefore (4.1.2.5).
+    ValidityIsNotEmpty,
+    /// Dates through 2049 are UTCTimes (4.1.2.5).
+    DatesThrough2049AreUtcTimes,
+    /// The subject of a CA is not empty (4.1.2.6).
+    SubjectOfCaIsNotEmpty,
+    /// The texts of issuer and subject have the sizes of A.1 (A.1).
+    TextsHaveSizes,
+    /// The texts of issuer and subject have the string types of A.1 (A.1).
+    TextsHaveStringTypes,
+    /// PrintableStrings in issuer and subject have only their characters (B).
+    PrintableStringsHaveTheirCharacters,
+    /// Ed25519, Ed448, X25519 and X448 have no parameters (RFC 8410 section 3) (4.1.1.2, 4.1.2.7).
+    CurvesHaveNoParameters,
+    /// A CA has a subjectKeyIdentifier (4.2.1.2).
+    CaHasSubjectKeyIdentifier,
+    /// authorityKeyIdentifier has a keyIdentifier, unless the issuer is the subject (4.2.1.1).
+    AuthorityHasKeyIdentifier,
+    /// authorityCertIssuer and authorityCertSerialNumber stand together (A.2).
+    AuthorityIssuerHasSerialNumber,
+    /// A CA has a keyUsage (4.2.1.3).
+    CaHasKeyUsage,
+    /// keyUsage has a bit that is set (4.2.1.3).
+    KeyUsageHasABit,
+    /// keyCertSign is set for a CA alone (4.2.1.3, 4.2.1.9).
+    KeyCertSignOnlyInCa,
+    /// pathLenConstraint stands beside cA and keyCertSign alone (4.2.1.9).
+    PathLengthOnlyInCa,
+    /// nameConstraints stands in the certificate of a CA alone (4.2.1.10).
+    NameConstraintsOnlyInCa,
+    /// nameConstraints is not empty (4.2.1.10).
+    NameConstraintsIsNotEmpty,
+    /// The subtrees of nameConstraints have the minimum 0 and no maximum (4.2.1.10).
+    NameConstraintsHasNoDistances,
+    /// The iPAddresses of nameConstraints have 8 or 32 octets (4.2.1.10).
+    ConstrainedAddressesHave8Or32Octets,
+    /// policyConstraints is not empty (4.2.1.11).
+    PolicyConstraintsIsNotEmpty,
+    /// Each policy stands once (4.2.1.4).
+    PoliciesStandOnce,
+    /// anyPolicy is not mapped (4.2.1.5).
+    AnyPolicyIsNotMapped,
+    /// A dNSName of an alternative name has the preferred name syntax (4.2.1.6, 4.2.1.7).
+    DnsNamesHaveSyntax,
+    /// An rfc822Name of an alternative name is a mailbox (4.2.1.6, 4.2.1.7).
+    MailboxesHaveSyntax,
+    /// A URI of an alternative name has a scheme and a part after it (4.2.1.6, 4.2.1.7).
+    UrisHaveSchemes,
+    /// An iPAddress of an alternative name has 4 or 16 octets (4.2.1.6, 4.2.1.7).
+    AddressesHave4Or16Octets,
+    /// Each point of cRLDistributionPoints has a distributionPoint or a cRLIssuer (4.2.1.13).
+    PointsHaveNames,
 }
 
 /// All rules, in the order in which `check_certificate` returns them.
-pub const CERTIFICATE_RULES: [CertificateRule; 18] = [
+pub const CERTIFICATE_RULES: [CertificateRule; 45] = [
     CertificateRule::AlgorithmsAgree,
     CertificateRule::ExtensionsInVersion3,
     CertificateRule::SerialNumberIsPositive,
@@ -92,6 +152,33 @@ pub const CERTIFICATE_RULES: [CertificateRule; 18] = [
     CertificateRule::NameConstraintsIsCritical,
     CertificateRule::PolicyConstraintsIsCritical,
     CertificateRule::InhibitAnyPolicyIsCritical,
+    CertificateRule::VersionIsKnown,
+    CertificateRule::ValidityIsNotEmpty,
+    CertificateRule::DatesThrough2049AreUtcTimes,
+    CertificateRule::SubjectOfCaIsNotEmpty,
+    CertificateRule::TextsHaveSizes,
+    CertificateRule::TextsHaveStringTypes,
+    CertificateRule::PrintableStringsHaveTheirCharacters,
+    CertificateRule::CurvesHaveNoParameters,
+    CertificateRule::CaHasSubjectKeyIdentifier,
+    CertificateRule::AuthorityHasKeyIdentifier,
+    CertificateRule::AuthorityIssuerHasSerialNumber,
+    CertificateRule::CaHasKeyUsage,
+    CertificateRule::KeyUsageHasABit,
+    CertificateRule::KeyCertSignOnlyInCa,
+    CertificateRule::PathLengthOnlyInCa,
+    CertificateRule::NameConstraintsOnlyInCa,
+    CertificateRule::NameConstraintsIsNotEmpty,
+    CertificateRule::NameConstraintsHasNoDistances,
+    CertificateRule::ConstrainedAddressesHave8Or32Octets,
+    CertificateRule::PolicyConstraintsIsNotEmpty,
+    CertificateRule::PoliciesStandOnce,
+    CertificateRule::AnyPolicyIsNotMapped,
+    CertificateRule::DnsNamesHaveSyntax,
+    CertificateRule::MailboxesHaveSyntax,
+    CertificateRule::UrisHaveSchemes,
+    CertificateRule::AddressesHave4Or16Octets,
+    CertificateRule::PointsHaveNames,
 ];
 
 /// Returns the rules that a certificate breaks, in the order of `CERTIFICATE_RULES`.
@@ -150,6 +237,33 @@ impl CertificateRule {
             CertificateRule::NameConstraintsIsCritical => "4.2.1.10",
             CertificateRule::PolicyConstraintsIsCritical => "4.2.1.11",
             CertificateRule::InhibitAnyPolicyIsCritical => "4.2.1.14",
+            CertificateRule::VersionIsKnown => "4.1.2.1",
+            CertificateRule::ValidityIsNotEmpty => "4.1.2.5",
+            CertificateRule::DatesThrough2049AreUtcTimes => "4.1.2.5",
+            CertificateRule::SubjectOfCaIsNotEmpty => "4.1.2.6",
+            CertificateRule::TextsHaveSizes => "A.1",
+            CertificateRule::TextsHaveStringTypes => "A.1",
+            CertificateRule::PrintableStringsHaveTheirCharacters => "B",
+            CertificateRule::CurvesHaveNoParameters => "4.1.1.2",
+            CertificateRule::CaHasSubjectKeyIdentifier => "4.2.1.2",
+            CertificateRule::AuthorityHasKeyIdentifier => "4.2.1.1",
+            CertificateRule::AuthorityIssuerHasSerialNumber => "A.2",
+            CertificateRule::CaHasKeyUsage => "4.2.1.3",
+            CertificateRule::KeyUsageHasABit => "4.2.1.3",
+            CertificateRule::KeyCertSignOnlyInCa => "4.2.1.3",
+            CertificateRule::PathLengthOnlyInCa => "4.2.1.9",
+            CertificateRule::NameConstraintsOnlyInCa => "4.2.1.10",
+            CertificateRule::NameConstraintsIsNotEmpty => "4.2.1.10",
+            CertificateRule::NameConstraintsHasNoDistances => "4.2.1.10",
+            CertificateRule::ConstrainedAddressesHave8Or32Octets => "4.2.1.10",
+            CertificateRule::PolicyConstraintsIsNotEmpty => "4.2.1.11",
+            CertificateRule::PoliciesStandOnce => "4.2.1.4",
+            CertificateRule::AnyPolicyIsNotMapped => "4.2.1.5",
+            CertificateRule::DnsNamesHaveSyntax => "4.2.1.6",
+            CertificateRule::MailboxesHaveSyntax => "4.2.1.6",
+            CertificateRule::UrisHaveSchemes => "4.2.1.6",
+            CertificateRule::AddressesHave4Or16Octets => "4.2.1.6",
+            CertificateRule::PointsHaveNames => "4.2.1.13",
         }
     }
 
@@ -266,7 +380,7 @@ impl CertificateRule {
                 Some(extensions) => has_uncritical_ca(alloc, extensions.items()),
                 None => false,
             },
-            _ => false,
+            _ => self.is_broken_by_fields(alloc, certificate),
         }
     }
 }
@@ -415,11 +529,11 @@ fn is_uncritical(extension: &Extension<'_>) -> bool
 {
     extension.extn_id().as_bytes() == ID_CE_BASIC_CONSTRAINTS.as_slice()
         && !extension.critical()
-        && is_ca(extension.extn_value().as_bytes())
+        && says_true(extension.extn_value().as_bytes())
 }
 
 /// Returns whether the octets of BasicConstraints say that cA is TRUE: 30, a length, 01 01 FF.
-fn is_ca(octets: &[u8]) -> bool
+fn says_true(octets: &[u8]) -> bool
     ensures { result ≡ says_true octets.now }
 {
     octets.len() >= 5 && octets[2..5] == [0x01, 0x01, 0xff]

@@ -1,7 +1,7 @@
 //! Dates of certificates (RFC 5280 4.1.2.5).
 
 ghost use Rattle.std.specs.Prelude.{◌≡◌};
-ghost use Rattle.der_verify.specs.Time.{date_time_of, HasForm, seconds_of, is_valid_at};
+ghost use Rattle.der_verify.specs.Time.{date_time_of, is_early, HasForm, seconds_of, is_valid_at};
 
 use der_pkix::certificate::{Time, Validity};
 use der_time::{DateTime, GeneralizedTime, UtcTime};
@@ -40,4 +40,14 @@ pub fn holds_at(validity: Validity, moment: u64) -> bool
     ensures { result ≡ is_valid_at validity moment }
 {
     seconds(validity.not_before()) <= moment && moment <= seconds(validity.not_after())
+}
+
+/// Returns whether a date through 2049 is a GeneralizedTime.
+pub(crate) fn is_early(time: Time) -> bool
+    ensures { result ≡ is_early time }
+{
+    match time {
+        Time::UtcTime(_) => false,
+        Time::GeneralTime(time) => time.to_date_time().year() <= 2049,
+    }
 }

@@ -444,6 +444,60 @@ class CertificateRule(IntFlag):
     """policyConstraints is critical (4.2.1.11)."""
     INHIBIT_ANY_POLICY_IS_CRITICAL = 1 << 17
     """inhibitAnyPolicy is critical (4.2.1.14)."""
+    VERSION_IS_KNOWN = 1 << 18
+    """The version is 1, 2 or 3 (4.1.2.1)."""
+    VALIDITY_IS_NOT_EMPTY = 1 << 19
+    """notAfter is not before notBefore (4.1.2.5)."""
+    DATES_THROUGH_2049_ARE_UTC_TIMES = 1 << 20
+    """Dates through 2049 are UTCTimes (4.1.2.5)."""
+    SUBJECT_OF_CA_IS_NOT_EMPTY = 1 << 21
+    """The subject of a CA is not empty (4.1.2.6)."""
+    TEXTS_HAVE_SIZES = 1 << 22
+    """The texts of issuer and subject have the sizes of A.1 (A.1)."""
+    TEXTS_HAVE_STRING_TYPES = 1 << 23
+    """The texts of issuer and subject have the string types of A.1 (A.1)."""
+    PRINTABLE_STRINGS_HAVE_THEIR_CHARACTERS = 1 << 24
+    """PrintableStrings in issuer and subject have only their characters (B)."""
+    CURVES_HAVE_NO_PARAMETERS = 1 << 25
+    """Ed25519, Ed448, X25519 and X448 have no parameters (RFC 8410 section 3) (4.1.1.2, 4.1.2.7)."""
+    CA_HAS_SUBJECT_KEY_IDENTIFIER = 1 << 26
+    """A CA has a subjectKeyIdentifier (4.2.1.2)."""
+    AUTHORITY_HAS_KEY_IDENTIFIER = 1 << 27
+    """authorityKeyIdentifier has a keyIdentifier, unless the issuer is the subject (4.2.1.1)."""
+    AUTHORITY_ISSUER_HAS_SERIAL_NUMBER = 1 << 28
+    """authorityCertIssuer and authorityCertSerialNumber stand together (A.2)."""
+    CA_HAS_KEY_USAGE = 1 << 29
+    """A CA has a keyUsage (4.2.1.3)."""
+    KEY_USAGE_HAS_A_BIT = 1 << 30
+    """keyUsage has a bit that is set (4.2.1.3)."""
+    KEY_CERT_SIGN_ONLY_IN_CA = 1 << 31
+    """keyCertSign is set for a CA alone (4.2.1.3, 4.2.1.9)."""
+    PATH_LENGTH_ONLY_IN_CA = 1 << 32
+    """pathLenConstraint stands beside cA and keyCertSign alone (4.2.1.9)."""
+    NAME_CONSTRAINTS_ONLY_IN_CA = 1 << 33
+    """nameConstraints stands in the certificate of a CA alone (4.2.1.10)."""
+    NAME_CONSTRAINTS_IS_NOT_EMPTY = 1 << 34
+    """nameConstraints is not empty (4.2.1.10)."""
+    NAME_CONSTRAINTS_HAS_NO_DISTANCES = 1 << 35
+    """The subtrees of nameConstraints have the minimum 0 and no maximum (4.2.1.10)."""
+    CONSTRAINED_ADDRESSES_HAVE_8_OR_32_OCTETS = 1 << 36
+    """The iPAddresses of nameConstraints have 8 or 32 octets (4.2.1.10)."""
+    POLICY_CONSTRAINTS_IS_NOT_EMPTY = 1 << 37
+    """policyConstraints is not empty (4.2.1.11)."""
+    POLICIES_STAND_ONCE = 1 << 38
+    """Each policy stands once (4.2.1.4)."""
+    ANY_POLICY_IS_NOT_MAPPED = 1 << 39
+    """anyPolicy is not mapped (4.2.1.5)."""
+    DNS_NAMES_HAVE_SYNTAX = 1 << 40
+    """A dNSName of an alternative name has the preferred name syntax (4.2.1.6, 4.2.1.7)."""
+    MAILBOXES_HAVE_SYNTAX = 1 << 41
+    """An rfc822Name of an alternative name is a mailbox (4.2.1.6, 4.2.1.7)."""
+    URIS_HAVE_SCHEMES = 1 << 42
+    """A URI of an alternative name has a scheme and a part after it (4.2.1.6, 4.2.1.7)."""
+    ADDRESSES_HAVE_4_OR_16_OCTETS = 1 << 43
+    """An iPAddress of an alternative name has 4 or 16 octets (4.2.1.6, 4.2.1.7)."""
+    POINTS_HAVE_NAMES = 1 << 44
+    """Each point of cRLDistributionPoints has a distributionPoint or a cRLIssuer (4.2.1.13)."""
 
 
 class ListRule(IntFlag):
@@ -477,6 +531,24 @@ class ListRule(IntFlag):
     """invalidityDate of an entry is not critical (5.3.2)."""
     CERTIFICATE_ISSUER_IS_CRITICAL = 1 << 13
     """certificateIssuer of an entry is critical (5.3.3)."""
+    VERSION_IS_2 = 1 << 14
+    """The version is 2 or absent (5.1.2.1)."""
+    DATES_THROUGH_2049_ARE_UTC_TIMES = 1 << 15
+    """Dates through 2049 are UTCTimes (5.1.2.4, 5.1.2.5)."""
+    AUTHORITY_HAS_KEY_IDENTIFIER = 1 << 16
+    """authorityKeyIdentifier has a keyIdentifier (5.2.1)."""
+    CRL_NUMBER_IS_THERE = 1 << 17
+    """cRLNumber is there (5.2.3)."""
+    CRL_NUMBER_HAS_AT_MOST_20_OCTETS = 1 << 18
+    """cRLNumber is not negative, and has at most 20 octets (5.2.3)."""
+    ISSUING_DISTRIBUTION_POINT_IS_NOT_EMPTY = 1 << 19
+    """issuingDistributionPoint is not empty (5.2.5)."""
+    ISSUING_DISTRIBUTION_POINT_HAS_ONE_KIND = 1 << 20
+    """issuingDistributionPoint has at most one kind of certificates (5.2.5)."""
+    ENTRY_EXTENSIONS_STAND_ONCE = 1 << 21
+    """Each extension of an entry stands once (5.3, 4.2)."""
+    REMOVE_FROM_CRL_ONLY_IN_DELTA = 1 << 22
+    """removeFromCRL stands in a delta list alone (5.3.1)."""
 
 
 # end of rules

@@ -55,8 +55,8 @@ static PyObject *first_encoding(PyObject *module, PyObject *octets)
         return answer != 0 ? refuse(&fault) : PyLong_FromUnsignedLongLong(number); \
     }
 
-NUMBER(check_rfc5280, uint32_t)
-NUMBER(check_rfc5280_list, uint32_t)
+NUMBER(check_rfc5280, uint64_t)
+NUMBER(check_rfc5280_list, uint64_t)
 NUMBER(unsigned_integer, uint64_t)
 NUMBER(fractional_time, uint64_t)
 NUMBER(named_bits, uint32_t)

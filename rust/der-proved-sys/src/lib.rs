@@ -1010,8 +1010,8 @@ extern "C" {
     pub fn der_fractional_time(octets: *const u8, len: usize, out: *mut u64, fault: *mut Fault) -> u32;
     pub fn der_named_bits(octets: *const u8, len: usize, out: *mut u32, fault: *mut Fault) -> u32;
     pub fn der_general_name(octets: *const u8, len: usize, out: *mut u32, fault: *mut Fault) -> u32;
-    pub fn der_check_rfc5280(octets: *const u8, len: usize, broken: *mut u32, fault: *mut Fault) -> u32;
-    pub fn der_check_rfc5280_list(octets: *const u8, len: usize, broken: *mut u32, fault: *mut Fault) -> u32;
+    pub fn der_check_rfc5280(octets: *const u8, len: usize, broken: *mut u64, fault: *mut Fault) -> u32;
+    pub fn der_check_rfc5280_list(octets: *const u8, len: usize, broken: *mut u64, fault: *mut Fault) -> u32;
     pub fn der_canonical(
         name: *const u8,
         name_len: usize,

@@ -102,8 +102,8 @@ reads! {
     fractional_time: der_fractional_time -> u64,
     named_bits: der_named_bits -> u32,
     general_name: der_general_name -> u32,
-    check_rfc5280: der_check_rfc5280 -> u32,
-    check_rfc5280_list: der_check_rfc5280_list -> u32,
+    check_rfc5280: der_check_rfc5280 -> u64,
+    check_rfc5280_list: der_check_rfc5280_list -> u64,
 }
 
 /// What `der_canonical` returns: how many octets it wrote to the buffer, or the fault. If the buffer is too short (103),

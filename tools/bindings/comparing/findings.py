@@ -12,6 +12,7 @@ from ..tables.rules import Rule, of_kind
 from .listing import line_at
 
 FILE = "crates/certview_text/src/findings.rt"
+BEFORE = ("finding", "field", "usage", "constraint", "value")  # the functions before `criticality`, each with a last arm `_`
 CRITICALITY = re.compile(r"^(\w+)(?: of a CA|( of an entry))? is (not )?critical$")
 
 
@@ -33,8 +34,8 @@ def compare_findings(root: Path, rules: list[Rule]) -> list[Difference]:
 
 
 def compare_kind(text: str, kind: str, rules: list[Rule]) -> list[Difference]:
-    """Each rule has one arm in one of the two matches; one rule is that of the last arm, which names none."""
-    arms = [*arms_of(text, kind, "finding")[:-1], *arms_of(text, kind, "criticality")]
+    """Each rule has one arm in one of the matches; one rule is that of the last arm, which names none."""
+    arms = [arm for what in BEFORE for arm in arms_of(text, kind, what)[:-1]] + arms_of(text, kind, "criticality")
     if not arms or arms[-1].name != "_":
         return [Difference(FILE, 1, f"{kind}_finding and {kind}_criticality are not there, each with a last arm '_'")]
     names = [arm.name for arm in arms[:-1]]
@@ -54,7 +55,7 @@ def named(rules: list[Rule], name: str) -> Rule | None:
 
 def arms_of(text: str, kind: str, what: str) -> list[Arm]:
     """The arms of the match in a function."""
-    function = re.search(rf"^fn {kind}_{what}\(.*\n    match rule \{{\n((?s:.*?))^    \}}\n\}}", text, re.M)
+    function = re.search(rf"^fn {kind}_{what}\(.*\n(?:    let .*\n)*    match rule \{{\n((?s:.*?))^    \}}\n\}}", text, re.M)
     if not function:
         return []
     heads = list(re.finditer(r"^        (?:\w+::)?(\w+) => ", function[1], re.M))

@@ -51,7 +51,7 @@ def constant(kind: str, enum: str) -> Listing:
 
 def match_of_sections(enum: str) -> Listing:
     begin = r"^    pub fn section\(self\)[^}]*\}\n    \{\n        match self \{$"
-    return Listing("the call section", begin, rf'^            {enum}::(\w+) => "([\d.]+)",$', r"^        \}$")
+    return Listing("the call section", begin, rf'^            {enum}::(\w+) => "([\dAB.]+)",$', r"^        \}$")
 
 
 def definition(kind: str) -> Listing:
@@ -60,7 +60,7 @@ def definition(kind: str) -> Listing:
 
 def equations(kind: str) -> Listing:
     name = SECTION[kind]
-    entry = rf'^{name} {RULE[kind]}\.(\w+) = codes "([\d.]+)"$'
+    entry = rf'^{name} {RULE[kind]}\.(\w+) = codes "([\dAB.]+)"$'
     return Listing(f"the definition {name}", rf"^abbrev pub {name} : .*$", entry, r"^$|\Z")
 
 

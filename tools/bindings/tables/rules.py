@@ -9,7 +9,8 @@ from .lines import Line, lines_of
 
 KINDS = ("certificate", "list")
 NAME = re.compile(r"^([A-Z][a-z]*[0-9]*)+$")
-SECTIONS = re.compile(r"^\d+(\.\d+)+(, \d+(\.\d+)+)*$")
+SECTION = r"(\d+(\.\d+)+|[AB](\.\d+)?)"
+SECTIONS = re.compile(rf"^{SECTION}(, {SECTION})*$")
 NAME_IN_C = re.compile(r"^C: ([A-Z0-9]+(_[A-Z0-9]+)*)$")
 
 
@@ -38,8 +39,8 @@ def rules_of(file: str, text: str) -> list[Rule]:
         before = [other for other in found if other.kind == rule.kind]
         if rule.bit != len(before):
             raise line.error(f"the next rule of this kind has bit {len(before)}, not {rule.bit}")
-        if rule.bit > 31:
-            raise line.error("a number of 32 bits has no bit for this rule")
+        if rule.bit > 63:
+            raise line.error("a number of 64 bits has no bit for this rule")
         if rule.name in [other.name for other in before]:
             raise line.error(f"another rule has the name {rule.name}")
         found.append(rule)

@@ -12,8 +12,8 @@ from .tree import TreeTest
 LANGUAGES = {HEADER, RUST, GO, PYTHON}
 SYNONYM = "list | 3 | NextUpdateIsThere | 5.1.2.5 |"
 LAST = (
-    "list | 13 | CertificateIssuerIsCritical | 5.3.3 | certificateIssuer of an entry is critical "
-    "| an entry with this extension, not critical\n"
+    "list | 22 | RemoveFromCrlOnlyInDelta | 5.3.1 | removeFromCRL stands in a delta list alone "
+    "| an entry with this reason, and no deltaCRLIndicator\n"
 )
 
 
@@ -58,7 +58,7 @@ class ChangedRules(TreeTest):
         self.assert_told(LAST, "", LANGUAGES | {PAGE}, compared)
 
     def test_a_rule_more(self) -> None:
-        more = LAST + "list | 14 | VersionIs2 | 5.1.2.1 | The version is 2 | version 1\n"
+        more = LAST + "list | 23 | VersionIs3 | 5.1.2.1 | The version is 3 | version 1\n"
         compared = {LISTS, LISTS_ANTT, SECTIONS, BITS, FINDINGS, "docs/C.md"}
         self.assert_told(LAST, more, LANGUAGES | {PAGE}, compared)
 

@@ -66,9 +66,9 @@ class Rules(Refused):
 
     def test_a_rule_too_many(self) -> None:
         names = "ABCDEFGHIJKLMNOPQRSTUVWXYZ"
-        lines = [f"list | {at} | {names[at % 26] * (1 + at // 26)} | 5.1 | It holds | nothing\n" for at in range(33)]
-        self.assertEqual(len(rules_of("table.txt", "".join(lines[:32]))), 32)
-        self.assertEqual(self.refused(rules_of, "".join(lines)), "33 a number of 32 bits has no bit for this rule")
+        lines = [f"list | {at} | {names[at % 26] * (1 + at // 26)} | 5.1 | It holds | nothing\n" for at in range(65)]
+        self.assertEqual(len(rules_of("table.txt", "".join(lines[:64]))), 64)
+        self.assertEqual(self.refused(rules_of, "".join(lines)), "65 a number of 64 bits has no bit for this rule")
 
 
 class Structs(Refused):

@@ -26,12 +26,11 @@ KINDS = ("certificate", "list")
 def in_c(rules: list[Rule]) -> list[str]:
     lines = []
     for kind in KINDS:
-        lines += [*comment_in_c(HEAD_IN_C[kind]), f"enum der_{kind}_rule {{"]
-        mine = of_kind(rules, kind)
-        for rule in mine:
-            lines += comment_in_c(f"{small(rule.sentence)} ({rule.sections})", "    ")
-            lines.append(f"    {rule_in_c(rule)} = 1 << {rule.bit}" + ("," if rule is not mine[-1] else ""))
-        lines += ["};", ""]
+        lines += comment_in_c(HEAD_IN_C[kind])
+        for rule in of_kind(rules, kind):
+            lines += comment_in_c(f"{small(rule.sentence)} ({rule.sections})")
+            lines.append(f"#define {rule_in_c(rule)} ((uint64_t)1 << {rule.bit})")
+        lines.append("")
     return lines[:-1]
 
 
@@ -49,7 +48,7 @@ def in_go(rules: list[Rule]) -> list[str]:
     lines = [""]
     for kind in KINDS:
         type_ = f"{kind.capitalize()}Rules"
-        lines += [f"// {HEAD_IN_GO[kind]}", f"type {type_} uint32", "", "const ("]
+        lines += [f"// {HEAD_IN_GO[kind]}", f"type {type_} uint64", "", "const ("]
         for rule in of_kind(rules, kind):
             lines.append(f"\t// {rule_in_go(rule)}: {small(rule.sentence)} ({rule.sections}).")
             lines.append(f"\t{rule_in_go(rule)}" + (f" {type_} = 1 << iota" if rule.bit == 0 else ""))

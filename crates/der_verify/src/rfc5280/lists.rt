@@ -2,6 +2,7 @@
 //! 5.3).
 
 ghost use Rattle.std.specs.Prelude.{◌≡◌, ◌↔◌, List, Option, filter, IfOk, IsTrue};
+ghost use Rattle.std.specs.List.{list_any};
 ghost use Rattle.der_lists.specs.ListRef as list_ref;
 ghost use Rattle.der_pkix.specs.declared.certificate.extension.Extension.{Extension};
 ghost use Rattle.der_pkix.specs.Crl.CertificateList as list_fields;
@@ -9,20 +10,25 @@ ghost use Rattle.der_pkix.specs.Crl.TbsCertList as tbs_fields;
 ghost use Rattle.der_verify.specs.Rfc5280.{seen_forbidden, AreListed};
 ghost use Rattle.der_verify.specs.Sections.{list_section};
 ghost use Rattle.der_verify.specs.Shown.{AreShown};
-ghost use Rattle.der_verify.specs.Rfc5280Lists.{entry_has_criticality, entry_has_extensions, forbidden_of_entry, forbidden_of_list, is_version_2, list_breaks, list_breaks_otherwise, list_breaks_within, list_rules, list_same_algorithms, AreEntries, EntryShows};
+ghost use Rattle.der_verify.specs.Rfc5280Lists.{entry_has_criticality, entry_has_extensions, forbidden_of_entry, forbidden_of_list, has_repeated_within, is_early_if_there, is_other_version, is_removed_within, is_version_2, list_breaks, list_breaks_inside, list_breaks_otherwise, list_breaks_within, list_rules, list_same_algorithms, AreEntries, EntryShows};
 
+use super::inside::{
+    has_key_identifier, has_two_kinds, is_empty_sequence, is_odd_number, is_removed,
+};
 use super::repeated::list_repeats;
+use super::values::{value_in, value_of_list};
 use super::{has_criticality_of, has_repeated_one, is_empty_name};
 use crate::shown::{ShownTest, one_passes};
+use crate::time::is_early;
 use der_elem::Form;
 use der_extensions::extension::constants::{
-    ID_CE_CERTIFICATE_ISSUER, ID_CE_CRL_NUMBER, ID_CE_CRL_REASONS, ID_CE_DELTA_CRL_INDICATOR,
-    ID_CE_FRESHEST_CRL, ID_CE_INVALIDITY_DATE, ID_CE_ISSUING_DISTRIBUTION_POINT,
-    ID_PE_AUTHORITY_INFO_ACCESS,
+    ID_CE_AUTHORITY_KEY_IDENTIFIER, ID_CE_CERTIFICATE_ISSUER, ID_CE_CRL_NUMBER, ID_CE_CRL_REASONS,
+    ID_CE_DELTA_CRL_INDICATOR, ID_CE_FRESHEST_CRL, ID_CE_INVALIDITY_DATE,
+    ID_CE_ISSUING_DISTRIBUTION_POINT, ID_PE_AUTHORITY_INFO_ACCESS,
 };
 use der_lists::ListRef;
 use der_pkix::AlgorithmIdentifier;
-use der_pkix::certificate::Extension;
+use der_pkix::certificate::{Extension, Time};
 use der_pkix::crl::{CertificateList, RevokedCertificate, TbsCertList};
 use std::alloc::{AllocError, Global};
 
@@ -57,10 +63,28 @@ pub enum ListRule {
     InvalidityDateIsNotCritical,
     /// certificateIssuer of an entry is critical (5.3.3).
     CertificateIssuerIsCritical,
+    /// The version is 2 or absent (5.1.2.1).
+    VersionIs2,
+    /// Dates through 2049 are UTCTimes (5.1.2.4, 5.1.2.5).
+    DatesThrough2049AreUtcTimes,
+    /// authorityKeyIdentifier has a keyIdentifier (5.2.1).
+    AuthorityHasKeyIdentifier,
+    /// cRLNumber is there (5.2.3).
+    CrlNumberIsThere,
+    /// cRLNumber is not negative, and has at most 20 octets (5.2.3).
+    CrlNumberHasAtMost20Octets,
+    /// issuingDistributionPoint is not empty (5.2.5).
+    IssuingDistributionPointIsNotEmpty,
+    /// issuingDistributionPoint has at most one kind of certificates (5.2.5).
+    IssuingDistributionPointHasOneKind,
+    /// Each extension of an entry stands once (5.3, 4.2).
+    EntryExtensionsStandOnce,
+    /// removeFromCRL stands in a delta list alone (5.3.1).
+    RemoveFromCrlOnlyInDelta,
 }
 
 /// All rules, in the order in which `check_list` returns them.
-pub const LIST_RULES: [ListRule; 14] = [
+pub const LIST_RULES: [ListRule; 23] = [
     ListRule::AlgorithmsAgree,
     ListRule::ExtensionsInVersion2,
     ListRule::IssuerIsNotEmpty,
@@ -75,6 +99,15 @@ pub const LIST_RULES: [ListRule; 14] = [
     ListRule::ReasonCodeIsNotCritical,
     ListRule::InvalidityDateIsNotCritical,
     ListRule::CertificateIssuerIsCritical,
+    ListRule::VersionIs2,
+    ListRule::DatesThrough2049AreUtcTimes,
+    ListRule::AuthorityHasKeyIdentifier,
+    ListRule::CrlNumberIsThere,
+    ListRule::CrlNumberHasAtMost20Octets,
+    ListRule::IssuingDistributionPointIsNotEmpty,
+    ListRule::IssuingDistributionPointHasOneKind,
+    ListRule::EntryExtensionsStandOnce,
+    ListRule::RemoveFromCrlOnlyInDelta,
 ];
 
 /// Returns the rules that a list breaks, in the order of `LIST_RULES`.
@@ -130,6 +163,15 @@ impl ListRule {
             ListRule::ReasonCodeIsNotCritical => "5.3.1",
             ListRule::InvalidityDateIsNotCritical => "5.3.2",
             ListRule::CertificateIssuerIsCritical => "5.3.3",
+            ListRule::VersionIs2 => "5.1.2.1",
+            ListRule::DatesThrough2049AreUtcTimes => "5.1.2.4",
+            ListRule::AuthorityHasKeyIdentifier => "5.2.1",
+            ListRule::CrlNumberIsThere => "5.2.3",
+            ListRule::CrlNumberHasAtMost20Octets => "5.2.3",
+            ListRule::IssuingDistributionPointIsNotEmpty => "5.2.5",
+            ListRule::IssuingDistributionPointHasOneKind => "5.2.5",
+            ListRule::EntryExtensionsStandOnce => "5.3",
+            ListRule::RemoveFromCrlOnlyInDelta => "5.3.1",
         }
     }
 
@@ -244,8 +286,68 @@ impl ListRule {
                 Some(extensions) => has_repeated_one(alloc, extensions.items()),
                 None => false,
             },
+            _ => self.is_broken_inside(alloc, list),
+        }
+    }
+
+    /// Returns whether a list breaks a rule about its version, its dates, or the values of its
+    /// extensions.
+    fn is_broken_inside<'a>(self, alloc: Global, list: &TbsCertList<'a>) -> bool
+        ensures { (listed : List Extension) (entries : List (Option (List Extension)))
+            → AreListed ⟦<Extension<'a> as Form>⟧ (tbs_fields.crl_extensions list.now) listed
+            → AreEntries ⟦<RevokedCertificate<'a> as Form>⟧ ⟦<Extension<'a> as Form>⟧ (tbs_fields.revoked_certificates list.now) entries
+            → result ≡ list_breaks_inside self list.now listed entries }
+    {
+        match self {
+            ListRule::VersionIs2 => is_other_version(list.version()),
+            ListRule::DatesThrough2049AreUtcTimes => {
+                is_early(list.this_update()) || is_early_if_there(list.next_update())
+            }
+            ListRule::AuthorityHasKeyIdentifier => {
+                !has_key_identifier(value_of_list(alloc, list, &ID_CE_AUTHORITY_KEY_IDENTIFIER))
+            }
+            ListRule::CrlNumberIsThere => {
+                value_of_list(alloc, list, &ID_CE_CRL_NUMBER).is_empty()
+            }
+            ListRule::CrlNumberHasAtMost20Octets => {
+                is_odd_number(value_of_list(alloc, list, &ID_CE_CRL_NUMBER))
+            }
+            ListRule::IssuingDistributionPointIsNotEmpty => {
+                is_empty_sequence(value_of_list(alloc, list, &ID_CE_ISSUING_DISTRIBUTION_POINT))
+            }
+            ListRule::IssuingDistributionPointHasOneKind => {
+                has_two_kinds(value_of_list(alloc, list, &ID_CE_ISSUING_DISTRIBUTION_POINT))
+            }
+            ListRule::EntryExtensionsStandOnce => match list.revoked_certificates() {
+                Some(entries) => one_repeats_extension(alloc, entries),
+                None => false,
+            },
+            ListRule::RemoveFromCrlOnlyInDelta => {
+                value_of_list(alloc, list, &ID_CE_DELTA_CRL_INDICATOR).is_empty()
+                    && removes_one(alloc, list)
+            }
             _ => false,
         }
+    }
+}
+
+/// Returns whether the version is another than 2.
+fn is_other_version(version: Option<u8>) -> bool
+    ensures { result ≡ is_other_version version }
+{
+    match version {
+        Some(version) => version != 1,
+        None => false,
+    }
+}
+
+/// Returns whether a date, if there is one, is through 2049 and a GeneralizedTime.
+fn is_early_if_there(time: Option<Time>) -> bool
+    ensures { result ≡ is_early_if_there time }
+{
+    match time {
+        Some(time) => is_early(time),
+        None => false,
     }
 }
 
@@ -350,6 +452,94 @@ impl<'a, 'b> ShownTest<RevokedCertificate<'a>> for HasCriticalityWithin<'b> {
                     self.identifier,
                     self.critical,
                 )
+            }
+            None => false,
+        }
+    }
+
+    ghost respects = { λ p. same_extensions ⟦<Extension<'a> as Form>⟧ };
+}
+
+/// Returns whether an entry repeats an extension.
+fn one_repeats_extension<'a>(alloc: Global, entries: &ListRef<'a, RevokedCertificate<'a>>) -> bool
+    ensures { (shown : List (Option (List Extension)))
+        → AreShown ⟦<RevokedCertificate<'a> as Form>⟧ (EntryShows ⟦<Extension<'a> as Form>⟧) (list_ref.octets_of entries.now) shown
+        → result ≡ list_any has_repeated_within shown }
+{
+    one_passes(entries.iter(alloc), &RepeatsExtension { alloc })
+}
+
+/// The test that an entry repeats an extension.
+#[derive(Drop)]
+struct RepeatsExtension {
+    alloc: Global,
+}
+
+impl<'a> ShownTest<RevokedCertificate<'a>> for RepeatsExtension {
+    ghost use Rattle.std.specs.Prelude.{List, Option};
+    ghost use Rattle.der_pkix.specs.declared.certificate.extension.Extension.{Extension};
+    ghost use Rattle.der_verify.specs.EqualEncodings.{same_extensions};
+    ghost use Rattle.der_verify.specs.Rfc5280Lists.{has_repeated_within, EntryShows};
+
+    ghost Shown = { Option (List Extension) };
+
+    ghost shows = { λ p. EntryShows ⟦<Extension<'a> as Form>⟧ };
+
+    ghost passes = { λ p. has_repeated_within };
+
+    fn passes(&self, item: &RevokedCertificate<'a>) -> bool {
+        match item.crl_entry_extensions() {
+            Some(extensions) => has_repeated_one(self.alloc, extensions.items()),
+            None => false,
+        }
+    }
+
+    ghost respects = { λ p. same_extensions ⟦<Extension<'a> as Form>⟧ };
+}
+
+/// Returns whether an entry of a list has the reason removeFromCRL.
+fn removes_one<'a>(alloc: Global, list: &TbsCertList<'a>) -> bool
+    ensures { (entries : List (Option (List Extension)))
+        → AreEntries ⟦<RevokedCertificate<'a> as Form>⟧ ⟦<Extension<'a> as Form>⟧ (tbs_fields.revoked_certificates list.now) entries
+        → result ≡ list_any is_removed_within entries }
+{
+    match list.revoked_certificates() {
+        Some(entries) => one_is_removed(alloc, entries),
+        None => false,
+    }
+}
+
+/// Returns whether one of these entries has the reason removeFromCRL.
+fn one_is_removed<'a>(alloc: Global, entries: &ListRef<'a, RevokedCertificate<'a>>) -> bool
+    ensures { (shown : List (Option (List Extension)))
+        → AreShown ⟦<RevokedCertificate<'a> as Form>⟧ (EntryShows ⟦<Extension<'a> as Form>⟧) (list_ref.octets_of entries.now) shown
+        → result ≡ list_any is_removed_within shown }
+{
+    one_passes(entries.iter(alloc), &IsRemoved { alloc })
+}
+
+/// The test that the reason of an entry is removeFromCRL.
+#[derive(Drop)]
+struct IsRemoved {
+    alloc: Global,
+}
+
+impl<'a> ShownTest<RevokedCertificate<'a>> for IsRemoved {
+    ghost use Rattle.std.specs.Prelude.{List, Option};
+    ghost use Rattle.der_pkix.specs.declared.certificate.extension.Extension.{Extension};
+    ghost use Rattle.der_verify.specs.EqualEncodings.{same_extensions};
+    ghost use Rattle.der_verify.specs.Rfc5280Lists.{is_removed_within, EntryShows};
+
+    ghost Shown = { Option (List Extension) };
+
+    ghost shows = { λ p. EntryShows ⟦<Extension<'a> as Form>⟧ };
+
+    ghost passes = { λ p. is_removed_within };
+
+    fn passes(&self, item: &RevokedCertificate<'a>) -> bool {
+        match item.crl_entry_extensions() {
+            Some(extensions) => {
+                is_removed(value_in(self.alloc, extensions.items(), &ID_CE_CRL_REASONS))
             }
             None => false,
         }

@@ -15,7 +15,7 @@ use std::process::Abort;
 use std::test::Fail;
 
 // Returns the rules that the list breaks.
-fn rules_told(alloc: Global, octets: &[u8]) -> Result<Vec<ListRule>, u8> {
+pub(super) fn rules_told(alloc: Global, octets: &[u8]) -> Result<Vec<ListRule>, u8> {
     match CertificateList::from_der(alloc, octets) {
         Ok(list) => match check_list(alloc, &list) {
             Ok(found) => Ok(found),
@@ -26,7 +26,7 @@ fn rules_told(alloc: Global, octets: &[u8]) -> Result<Vec<ListRule>, u8> {
 }
 
 // Returns whether the list breaks the rule, and no other.
-fn is_alone(alloc: Global, octets: &[u8], rule: ListRule) -> Result<bool, u8> {
+pub(super) fn is_alone(alloc: Global, octets: &[u8], rule: ListRule) -> Result<bool, u8> {
     match CertificateList::from_der(alloc, octets) {
         Ok(list) => {
             for other in LIST_RULES {
@@ -54,8 +54,6 @@ fn each_rule_of_lists_is_broken_alone(rt: HostRuntime) -> Result<(), Fail> {
     let rows = [
         (LIST_ALGORITHMS, ListRule::AlgorithmsAgree),
         (LIST_VERSION_1, ListRule::ExtensionsInVersion2),
-        (LIST_ENTRY_VERSION_1, ListRule::ExtensionsInVersion2),
-        (LIST_VERSION_3, ListRule::ExtensionsInVersion2),
         (LIST_NO_ISSUER, ListRule::IssuerIsNotEmpty),
         (LIST_NO_NEXT, ListRule::NextUpdateIsThere),
         (LIST_NO_ENTRIES, ListRule::EmptyListIsAbsent),
@@ -86,15 +84,29 @@ fn each_rule_of_lists_is_broken_alone(rt: HostRuntime) -> Result<(), Fail> {
 #[test]
 fn no_rules_of_lists_and_two_are_told(rt: HostRuntime) -> Result<(), Fail> {
     let alloc = rt.alloc();
-    for digits in [LIST_FULL, LIST_V1] {
+    let absent = [
+        ListRule::AuthorityHasKeyIdentifier,
+        ListRule::CrlNumberIsThere,
+    ];
+    let rows = [(LIST_FULL, [].as_slice()), (LIST_V1, absent.as_slice())];
+    for (digits, wanted) in rows {
         let octets = hex::decode(alloc, digits)?;
         let found = rules_told(alloc, octets.as_slice())?;
-        same_in(&rt, &digits, found.as_slice(), [].as_slice());
+        same_in(&rt, &digits, found.as_slice(), wanted);
         same(&rt, agreement_told(alloc, octets.as_slice()), Ok(true));
     }
     let octets = hex::decode(alloc, LIST_TWO)?;
     let found = rules_told(alloc, octets.as_slice())?;
     let wanted = [ListRule::IssuerIsNotEmpty, ListRule::NextUpdateIsThere];
+    same(&rt, found.as_slice(), wanted.as_slice());
+    let octets = hex::decode(alloc, LIST_VERSION_3)?;
+    let found = rules_told(alloc, octets.as_slice())?;
+    let wanted = [ListRule::ExtensionsInVersion2, ListRule::VersionIs2];
+    same(&rt, found.as_slice(), wanted.as_slice());
+    let octets = hex::decode(alloc, LIST_ENTRY_VERSION_1)?;
+    let found = rules_told(alloc, octets.as_slice())?;
+    let [key, number] = absent;
+    let wanted = [ListRule::ExtensionsInVersion2, key, number];
     same(&rt, found.as_slice(), wanted.as_slice());
     let octets = hex::decode(alloc, LIST_ALGORITHMS)?;
     same(&rt, agreement_told(alloc, octets.as_slice()), Ok(false));
@@ -118,6 +130,15 @@ fn each_rule_of_lists_has_a_section(rt: HostRuntime) -> Result<(), Fail> {
         (ListRule::ReasonCodeIsNotCritical, "5.3.1"),
         (ListRule::InvalidityDateIsNotCritical, "5.3.2"),
         (ListRule::CertificateIssuerIsCritical, "5.3.3"),
+        (ListRule::VersionIs2, "5.1.2.1"),
+        (ListRule::DatesThrough2049AreUtcTimes, "5.1.2.4"),
+        (ListRule::AuthorityHasKeyIdentifier, "5.2.1"),
+        (ListRule::CrlNumberIsThere, "5.2.3"),
+        (ListRule::CrlNumberHasAtMost20Octets, "5.2.3"),
+        (ListRule::IssuingDistributionPointIsNotEmpty, "5.2.5"),
+        (ListRule::IssuingDistributionPointHasOneKind, "5.2.5"),
+        (ListRule::EntryExtensionsStandOnce, "5.3"),
+        (ListRule::RemoveFromCrlOnlyInDelta, "5.3.1"),
     ];
     for (rule, section) in rows {
         same_in(&rt, &rule, rule.section(), section);

@@ -1,0 +1,9 @@
+use Rattle.std.proofs.Common.{◌≡◌, length}
+use Rattle.der_verify.specs.Alternatives.{has_colon}
+use Rattle.der_verify.proofs.rfc5280.alternatives.has_colon.Given as goal
+
+abbrev pub invariant-each : goal.invariant-each
+invariant-each l = has_colon l.left ≡ has_colon l.octets
+
+abbrev pub decreases-each : goal.decreases-each
+decreases-each l = length l.left
