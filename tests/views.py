@@ -19,7 +19,7 @@ import sys
 import tempfile
 
 sys.dont_write_bytecode = True
-from lib import broken, documents, hand_made, irregular, programs, rare
+from lib import broken, documents, hand_made, irregular, programs, rare, rule_rows
 
 CRATE = f"{programs.ROOT}/crates/certview"
 TESTS = f"{programs.ROOT}/crates/programs_tests/src/tests/certview"
@@ -381,8 +381,13 @@ def check_rules(program):
         ends(f"--check, {row[1]}", run(program, ["--check"], row[2]), (1, shown[1] + broken.line(*row), b""))
         only = run(program, ["--check", "--fields", "breaks"], row[2])
         ends(f"--check alone, {row[1]}", only, (1, broken.line(*row), b""))
-    names = hand_made.certificate(subject=hand_made.name(), more=[hand_made.NAMES])[0]
-    for octets in (hand_made.certificate()[0], names, hand_made.revocation()[0], message("ED25519"), message("LIST"), message("RSA_PUBLIC")):
+    for rule, octets in rule_rows.CERTIFICATES + rule_rows.LISTS:
+        status, text, said = run(program, ["--check", "--fields", "breaks"], octets)
+        if (status, text.count(b"\n"), said) != (1, 1, b"") or not text.endswith(f"{broken.WORDS[rule]}\n".encode()):
+            fail(f"--check, {rule}: {status}, {text!r}, {said!r}")
+    names = broken.certificate(subject=hand_made.name(), more=[hand_made.NAMES, broken.OWN])[0]
+    good = rule_rows.GOOD + rule_rows.GOOD_LISTS
+    for octets in (*good, broken.certificate()[0], names, broken.revocation()[0], message("ED25519"), message("RSA_PUBLIC")):
         ends("--check of what breaks no rule", run(program, ["--check"], octets), run(program, [], octets))
     bundle = run(program, ["--check", "--fields", "breaks", f"{programs.TESTS}/views/certificate.pem"])
     ends("--check of a file", bundle, (0, b"", b""))

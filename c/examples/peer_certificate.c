@@ -38,7 +38,7 @@ static int is_authority(const certificate *it)
 /* Whether a certificate breaks a rule on which what is asked here rests. */
 static int is_irregular(const certificate *it)
 {
-    uint32_t broken, rules = DER_CERTIFICATE_ALGORITHMS_AGREE | DER_CERTIFICATE_EXTENSIONS_IN_VERSION_3
+    uint64_t broken, rules = DER_CERTIFICATE_ALGORITHMS_AGREE | DER_CERTIFICATE_EXTENSIONS_IN_VERSION_3
                              | DER_CERTIFICATE_EXTENSIONS_STAND_ONCE;
     return der_check_rfc5280(it->whole.at, it->whole.len, &broken, NULL) != 0 || (broken & rules) != 0;
 }

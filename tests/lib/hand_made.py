@@ -31,14 +31,14 @@ NAMES = of_ce(17, b"\x30\x08\x82\x06barley", True)
 
 
 def certificate(version=b"\xa0\x03\x02\x01\x02", serial=b"\x02\x01\x05", issuer=ISSUER, subject=SUBJECT, more=(), unique=b"", outer=INNER):
-    """A certificate, which breaks no rule of RFC 5280 where nothing else is given, and its list of extensions with the tag before it."""
+    """A certificate, and its list of extensions with the tag before it."""
     extensions = tlv(0xA3, tlv(0x30, *more)) if more else b""
     signed = tlv(0x30, version, serial, INNER, issuer, VALIDITY, subject, KEY, unique, extensions)
     return tlv(0x30, signed, outer, BITS), extensions
 
 
 def revocation(version=b"\x02\x01\x01", issuer=ISSUER, then=LAST, entries=b"", more=(), outer=INNER):
-    """A list, in the same way."""
+    """A list of revoked certificates, in the same way."""
     extensions = tlv(0xA0, tlv(0x30, *more)) if more else b""
     signed = tlv(0x30, version, INNER, issuer, FIRST, then, entries, extensions)
     return tlv(0x30, signed, outer, BITS), extensions
