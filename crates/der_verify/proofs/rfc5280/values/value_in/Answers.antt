@@ -12,7 +12,7 @@ each-init c = value_begin extension_meaning.ghosts.FORM c.args.identifier.now (l
 
 pub returns-then-has_identifier : goal.returns-then-has_identifier
 returns-then-has_identifier c = λ items a.
-    (c.as_bytes.ensures.value ∙ ap string.octets_of c.extn_value.ensures)
+    (c.as_bytes.ensures ∙ ap string.octets_of c.extn_value.ensures)
     ∙ value_here extension_meaning.ghosts.FORM c.args.identifier.now (list.octets_of c.args.extensions.now) same_extension c.each.left c.next.new.self c.in-Ok.extension c.each.invariant (rw c.in-Ok.is at c.in-Some.ensures.steps) (sym c.has_identifier.ensures ∙ c.if-has_identifier.true) items a
 
 pub each-preserved : goal.each-preserved
