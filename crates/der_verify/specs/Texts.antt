@@ -1,6 +1,6 @@
 -- The texts of the attributes of a name (RFC 5280 4.1.2.4, 4.1.2.6, appendices A.1 and B): an attribute is a type (06) and a value, whose identifier says which string it is. A value that is no string of A.1 has neither a size nor characters.
 use Rattle.std.specs.Prelude.{ℕ, ◌/◌, ◌==◌, nat_le, List, [], ◌∷◌, length, Bool, false, true, not, ◌&&◌, ◌||◌, if◌then◌else◌, Option, Some, None}
-use Rattle.std.specs.List.{list_all, list_any}
+use Rattle.std.specs.List.{list_all}
 use Rattle.der_verify.specs.declared.rfc5280.texts.TextRule.{TextRule}
 use Rattle.der_verify.specs.declared.rfc5280.texts.TextRule.TheVariants.{Characters, Size, StringType}
 use Rattle.der_verify.specs.Alternatives.{is_letter_or_digit}

@@ -1,10 +1,10 @@
 -- The first extension with the identifier has the value.
-use Rattle.std.proofs.Common.{ap, refl, sym, ◌∙◌}
+use Rattle.std.proofs.Common.{ap, sym, ◌∙◌}
 use Rattle.der_lists.specs.ListRef as list
 use Rattle.der_opaque.specs.OctetStringRef as string
 use Rattle.der_verify.specs.EqualEncodings.{same_extension}
 use Rattle.der_verify.specs.contracts.shown.MeaningsMeantExtension.TheImpl as extension_meaning
-use Rattle.der_verify.proofs.FirstValues.{value_begin, value_here, value_never, value_none, value_on}
+use Rattle.der_verify.proofs.FirstValues.{value_begin, value_here, value_none, value_on}
 use Rattle.der_verify.proofs.rfc5280.values.value_in.Goals as goal
 
 pub each-init : goal.each-init
