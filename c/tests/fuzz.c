@@ -1,6 +1,6 @@
 /* The calls under libFuzzer. The octets stand right before a page that cannot be read, so that a read behind them faults
- * although the proved functions have no instrumentation. What is passed to be filled stands between canaries. `walk` finds places
- * anew by the headers alone: it is instrumented, and so guides the fuzzer. */
+ * although the proved functions have no instrumentation. What is passed to be filled stands between canaries. `walk` finds
+ * places anew by the headers alone: it is instrumented, and so guides the fuzzer. The last line counts the calls. */
 #define _DEFAULT_SOURCE
 #include "fuzz.h"
 
@@ -251,7 +251,7 @@ static void any_place(const uint8_t *o, uint32_t size)
     found = der_next_encoding(o, size, &place);
     CHECK(is_within(size, found));
     found = der_bit_string_octets(o, size, &place);
-    CHECK(is_within(size, found));
+    CHECK(found.length == 0 || is_within(size, found));
     place.offset %= size;
     place.length %= size;
     found = der_contents(o, size, &place);
@@ -259,7 +259,7 @@ static void any_place(const uint8_t *o, uint32_t size)
     found = der_next_encoding(o, size, &place);
     CHECK(is_within(size, found));
     found = der_bit_string_octets(o, size, &place);
-    CHECK(is_within(size, found));
+    CHECK(found.length == 0 || is_within(size, found));
     calls += 6;
 }
 
