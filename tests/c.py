@@ -196,6 +196,10 @@ def try_fuzzer(trials, room, samples):
     os.mkdir(f"{room}/seeds")
     for sample in samples:
         shutil.copy(sample, f"{room}/seeds")
+    rows = "".join(text_of(path) for path in glob.glob(f"{ROOT}/tests/messages/*.rows"))
+    for number, digits in enumerate(re.findall(r"^[a-z0-9]+ ((?:[0-9a-f]{2})+) ", rows, re.M)):
+        with open(f"{room}/seeds/{number}", "wb") as file:
+            file.write(bytes.fromhex(digits))
     words = [f"{room}/fuzz", "-max_total_time=30", "-max_len=4096", "-rss_limit_mb=1024", f"{room}/seeds"]
     told = trials.run("the fuzzer", words, cwd=room)
     print("c: the fuzzer:", *re.findall(r"Done \d+ runs.*|^\d+ calls$", told, re.M))
