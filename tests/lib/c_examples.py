@@ -162,10 +162,10 @@ def try_certificates(room):
     for name in ("bad_signature", "bad_name"):
         room.make(f"x509 -inform DER -in {name}.der -out {name}.pem")
     rows = [
-        (0, "leaf", "ca", 0), (0, "leaf", "ca", 99), (0, "by_rsa", "rsa_ca", 0), (0, "by_pss", "rsa_ca", 0), (0, "by_ed", "ed_ca", 0),
-        (0, "bare", "ca", 0), (1, "leaf", "ca", 101), (1, "leaf", "ca", 400), (1, "leaf", "ca", -1), (1, "leaf", "again", 0),
-        (1, "leaf", "other", 0), (1, "bad_signature", "ca", 0), (1, "bad_name", "ca", 0), (1, "client", "ca", 0), (1, "unknown", "ca", 0),
-        (1, "by_no_use", "no_use", 0), (1, "by_leaf", "leaf", 0),
+        (0, "leaf", "ca", 0), (0, "leaf", "ca", 99), (0, "by_rsa", "rsa_ca", 0), (0, "by_pss", "rsa_ca", 0),
+        (0, "by_ed", "ed_ca", 0), (0, "bare", "ca", 0), (1, "leaf", "ca", 101), (1, "leaf", "ca", 400), (1, "leaf", "ca", -1),
+        (1, "leaf", "again", 0), (1, "leaf", "other", 0), (1, "bad_signature", "ca", 0), (1, "bad_name", "ca", 0),
+        (1, "client", "ca", 0), (1, "unknown", "ca", 0), (1, "by_no_use", "no_use", 0), (1, "by_leaf", "leaf", 0),
     ]
     for wanted, name, issuer, days in rows:
         moment = room.now + days * DAY
@@ -194,9 +194,10 @@ def make_answers(room):
     for name, words in {"asked": "-cert leaf.pem", "asked256": "-sha256 -cert leaf.pem", "asked_other": "-cert bare.pem"}.items():
         room.make(f"ocsp -issuer ca.pem {words} -reqout {name} -no_nonce")
     made = {
-        "by_ca": "asked valid ca", "short": "asked valid ca -resp_no_certs", "sha256": "asked256 valid ca", "by_delegate": "asked valid responder",
-        "by_key": "asked valid responder -resp_key_id", "late": "asked revoked ca", "late_by_delegate": "asked revoked responder",
-        "nothing": "asked none ca", "about_other": "asked_other valid ca", "not_delegated": "asked valid client", "of_other": "asked valid others",
+        "by_ca": "asked valid ca", "short": "asked valid ca -resp_no_certs", "sha256": "asked256 valid ca",
+        "by_delegate": "asked valid responder", "by_key": "asked valid responder -resp_key_id", "late": "asked revoked ca",
+        "late_by_delegate": "asked revoked responder", "nothing": "asked none ca", "about_other": "asked_other valid ca",
+        "not_delegated": "asked valid client", "of_other": "asked valid others",
     }
     for name, words in made.items():
         asked, index, signer, *more = words.split()
@@ -211,16 +212,17 @@ def try_answers(room):
     """ocsp_answer beside openssl ocsp."""
     make_answers(room)
     rows = [
-        ("good", "by_ca", 0), ("good", "by_ca", 6), ("good", "short", 0), ("good", "sha256", 0), ("good", "by_delegate", 0), ("good", "by_key", 0),
-        ("revoked", "late", 0), ("revoked", "late_by_delegate", 0), ("unknown", "nothing", 0), ("refused", "about_other", 0),
-        ("refused", "not_delegated", 0), ("refused", "of_other", 0), ("refused", "bad_signature", 0), ("refused", "bad_time", 0),
-        ("refused", "unauthorized", 0), ("refused", "by_ca", 8), ("refused", "by_ca", -1), ("refused", "by_delegate", 101),
+        ("good", "by_ca", 0), ("good", "by_ca", 6), ("good", "short", 0), ("good", "sha256", 0), ("good", "by_delegate", 0),
+        ("good", "by_key", 0), ("revoked", "late", 0), ("revoked", "late_by_delegate", 0), ("unknown", "nothing", 0),
+        ("refused", "about_other", 0), ("refused", "not_delegated", 0), ("refused", "of_other", 0),
+        ("refused", "bad_signature", 0), ("refused", "bad_time", 0), ("refused", "unauthorized", 0), ("refused", "by_ca", 8),
+        ("refused", "by_ca", -1), ("refused", "by_delegate", 101),
     ]
     for wanted, name, days in rows:
         moment = room.now + days * DAY
         status, told = room.program("ocsp_answer", name, "leaf.der", "ca.der", moment)
-        words = f"ocsp -respin {name} -issuer ca.pem {'-sha256' if name == 'sha256' else ''} -cert leaf.pem -CAfile ca.pem -no-CApath -no_nonce"
-        _, beside = room.openssl(words, moment)
+        words = f"-issuer ca.pem {'-sha256' if name == 'sha256' else ''} -cert leaf.pem -CAfile ca.pem -no-CApath -no_nonce"
+        _, beside = room.openssl(f"ocsp -respin {name} {words}", moment)
         found = re.search(r"^leaf\.pem: (\w+)$", beside, re.M) if "Response verify OK" in beside and "WARNING" not in beside else None
         told = re.match(r"\w*", told)[0] or "refused"
         room.same(f"ocsp_answer: {name}, in {days} days", wanted, told, found[1] if found else "refused")
@@ -246,11 +248,12 @@ def try_lists(room):
     """crl_check beside openssl verify -crl_check."""
     make_lists(room)
     rows = [
-        ("not revoked", "list", "leaf", "ca", 0), ("not revoked", "list", "leaf", "ca", 29), ("not revoked", "ed_list", "by_ed", "ed_ca", 0),
-        ("not revoked", "pss_list", "by_pss", "rsa_ca", 0), ("revoked", "list", "bare", "ca", 0), ("revoked", "list", "client", "ca", 0),
-        ("refused", "list", "leaf", "ca", 31), ("refused", "list", "leaf", "ca", -1), ("refused", "bad_list", "leaf", "ca", 0),
-        ("refused", "by_other", "leaf", "ca", 0), ("refused", "by_again", "leaf", "ca", 0), ("refused", "narrow", "leaf", "ca", 0),
-        ("refused", "no_use_list", "by_no_use", "no_use", 0),
+        ("not revoked", "list", "leaf", "ca", 0), ("not revoked", "list", "leaf", "ca", 29),
+        ("not revoked", "ed_list", "by_ed", "ed_ca", 0), ("not revoked", "pss_list", "by_pss", "rsa_ca", 0),
+        ("revoked", "list", "bare", "ca", 0), ("revoked", "list", "client", "ca", 0), ("refused", "list", "leaf", "ca", 31),
+        ("refused", "list", "leaf", "ca", -1), ("refused", "bad_list", "leaf", "ca", 0),
+        ("refused", "by_other", "leaf", "ca", 0), ("refused", "by_again", "leaf", "ca", 0),
+        ("refused", "narrow", "leaf", "ca", 0), ("refused", "no_use_list", "by_no_use", "no_use", 0),
     ]
     for wanted, name, of, issuer, days in rows:
         moment = room.now + days * DAY
@@ -269,7 +272,8 @@ def try_pkcs12(room):
     """pkcs12 beside openssl pkcs12: the same certificates and keys."""
     made = {
         "plain": "", "none": "", "chain": "-certfile ca.pem", "open": "-certpbe NONE", "clear": "-keypbe NONE -certpbe NONE",
-        "small": "-keypbe AES-128-CBC -certpbe AES-192-CBC -macalg sha512 -iter 5000", "key": "-nocerts", "certificate": "-nokeys",
+        "small": "-keypbe AES-128-CBC -certpbe AES-192-CBC -macalg sha512 -iter 5000", "key": "-nocerts",
+        "certificate": "-nokeys",
     }
     passwords = {"none": "", "small": "pässwort"}
     for name, words in made.items():
@@ -280,8 +284,8 @@ def try_pkcs12(room):
     room.flip("plain.p12", "bad_mac.p12", octets.rindex(b"\x04\x20") + 5)
     room.write("cut.p12", octets[:-1])
     room.write("leaf.p12", room.read("leaf.der"))
-    rows = [(0, name, passwords.get(name, "secret")) for name in made] + [(1, "plain", "Secret"), (1, "plain", ""), (1, "small", "passwort")]
-    rows += [(1, name, "secret") for name in ("bad", "bad_mac", "cut", "leaf")]
+    rows = [(0, name, passwords.get(name, "secret")) for name in made] + [(1, name, "secret") for name in ("bad", "bad_mac", "cut", "leaf")]
+    rows += [(1, "plain", "Secret"), (1, "plain", ""), (1, "small", "passwort")]
     for wanted, name, password in rows:
         found, told = room.program("pkcs12", f"{name}.p12", password)
         other, beside = room.openssl(f"pkcs12 -in {name}.p12 -passin pass:{password} -nodes")
@@ -294,7 +298,8 @@ def try_signatures(room):
     """cms_signature beside openssl cms -verify."""
     made = {
         "attached": "leaf -nodetach", "detached": "leaf", "by_identifier": "leaf -keyid -nodetach", "bare": "leaf -noattr",
-        "sha512": "leaf -md sha512 -nodetach", "rsa": "bare -nodetach", "two": "leaf -nodetach -signer bare.pem -inkey bare.key",
+        "sha512": "leaf -md sha512 -nodetach", "rsa": "bare -nodetach",
+        "two": "leaf -nodetach -signer bare.pem -inkey bare.key",
         "pss": "bare -nodetach -keyopt " + PSS.format("-keyopt"),
     }
     for name, words in made.items():
@@ -305,10 +310,11 @@ def try_signatures(room):
     room.write("bad_content.cms", octets.replace(b"what is s", b"what is S"))
     room.write("bad_type.cms", octets.replace(bytes.fromhex("2a864886f70d010701"), bytes.fromhex("2a864886f70d010705"), 1))
     rows = [
-        (0, "attached", "leaf", ""), (0, "detached", "leaf", "text"), (0, "by_identifier", "leaf", ""), (0, "bare", "leaf", "text"),
-        (0, "sha512", "leaf", ""), (0, "rsa", "bare", ""), (0, "pss", "bare", ""), (1, "detached", "leaf", "altered"), (1, "detached", "leaf", ""),
-        (1, "bare", "leaf", "altered"), (1, "attached", "bare", ""), (1, "by_identifier", "bare", ""), (1, "rsa", "leaf", ""),
-        (1, "two", "leaf", ""), (1, "bad_signature", "leaf", ""), (1, "bad_content", "leaf", ""),
+        (0, "attached", "leaf", ""), (0, "detached", "leaf", "text"), (0, "by_identifier", "leaf", ""),
+        (0, "bare", "leaf", "text"), (0, "sha512", "leaf", ""), (0, "rsa", "bare", ""), (0, "pss", "bare", ""),
+        (1, "detached", "leaf", "altered"), (1, "detached", "leaf", ""), (1, "bare", "leaf", "altered"),
+        (1, "attached", "bare", ""), (1, "by_identifier", "bare", ""), (1, "rsa", "leaf", ""), (1, "two", "leaf", ""),
+        (1, "bad_signature", "leaf", ""), (1, "bad_content", "leaf", ""),
     ]
     for wanted, name, by, content in rows:
         found, _ = room.program("cms_signature", f"{name}.cms", f"{by}.der", *content.split())
@@ -341,7 +347,8 @@ def try_stamps(room):
         (0, "one", "text", "stamper", ""), (0, "two", "text", "stamper", ""), (0, "by_rsa", "text", "rsa_stamper", ""),
         (0, "one", "text", "stamper", "one"), (0, "two", "text", "stamper", "two"), (1, "one", "altered", "stamper", ""),
         (1, "one", "text", "rsa_stamper", ""), (1, "by_rsa", "text", "stamper", ""), (1, "one", "text", "stamper", "other"),
-        (1, "bad_signature", "text", "stamper", ""), (1, "bad_time", "text", "stamper", ""), (1, "policy", "text", "stamper", ""),
+        (1, "bad_signature", "text", "stamper", ""), (1, "bad_time", "text", "stamper", ""),
+        (1, "policy", "text", "stamper", ""),
     ]
     for wanted, name, data, by, query in rows:
         nonce = re.findall(r"Nonce: (0x\w+)", room.openssl(f"ts -query -in {query}.tsq -text")[1])
