@@ -135,7 +135,7 @@ const (
 	ListCertificateIssuerIsCritical
 	// ListVersionIs2: the version is 2 or absent (5.1.2.1).
 	ListVersionIs2
-	// ListDatesThrough2049AreUtcTimes: dates through 2049 are UTCTimes (5.1.2.4, 5.1.2.5).
+	// ListDatesThrough2049AreUtcTimes: dates through 2049 are UTCTimes (5.1.2.4, 5.1.2.5, 5.1.2.6).
 	ListDatesThrough2049AreUtcTimes
 	// ListAuthorityHasKeyIdentifier: authorityKeyIdentifier has a keyIdentifier (5.2.1).
 	ListAuthorityHasKeyIdentifier

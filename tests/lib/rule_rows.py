@@ -28,10 +28,10 @@ def certificate(*more, without=(), version=2, dates=(EARLY, LATE), issuer=MILL, 
     return sequence(signed, inner, tlv(3, bytes(65)))
 
 
-def revocation(*more, without=(), version=1, dates=(EARLY, LATE), entries=()):
+def revocation(*more, without=(), version=1, dates=(EARLY, LATE), revoked=EARLY, entries=()):
     """A list that breaks no rule, but for the changes. An entry is its extensions."""
     extensions = [it for it in (OWN, NUMBER) if it not in without]
-    rows = [sequence(integer(at + 1), EARLY, sequence(*it)) for at, it in enumerate(entries)]
+    rows = [sequence(integer(at + 1), revoked, sequence(*it)) for at, it in enumerate(entries)]
     signed = sequence(integer(version), sequence(ED25519), MILL, *dates, *([sequence(*rows)] if rows else []), tlv(0xA0, sequence(*extensions, *more)))
     return sequence(signed, sequence(ED25519), tlv(3, bytes(65)))
 
@@ -59,7 +59,7 @@ def issuing_point(*fields):
 
 
 LEAF = (CA, SIGNS)
-REMOVED = extension(REASON, tlv(10, b"\x08"))
+REMOVED, AGAIN = (extension(REASON, tlv(10, bytes([number]))) for number in (8, 1))
 CERTIFICATES = [
     ("VersionIsKnown", certificate(version=5, without=(CA, SIGNS, SUBJECT))),
     ("ValidityIsNotEmpty", certificate(dates=(LATE, EARLY))),
@@ -106,13 +106,14 @@ CERTIFICATES = [
 LISTS = [
     ("DatesThrough2049AreUtcTimes", revocation(dates=(tlv(0x18, b"20491231235959Z"), LATE))),
     ("DatesThrough2049AreUtcTimes", revocation(dates=(EARLY, tlv(0x18, b"20491231235959Z")))),
+    ("DatesThrough2049AreUtcTimes", revocation(revoked=tlv(0x18, b"20491231235959Z"), entries=([AGAIN],))),
     ("AuthorityHasKeyIdentifier", revocation(extension(AUTHORITY_KEY, sequence()), without=(OWN,))),
     ("CrlNumberIsThere", revocation(without=(NUMBER,))),
     ("CrlNumberHasAtMost20Octets", revocation(extension(CRL_NUMBER, integer(-1)), without=(NUMBER,))),
     ("CrlNumberHasAtMost20Octets", revocation(extension(CRL_NUMBER, integer(1 << 160)), without=(NUMBER,))),
     ("IssuingDistributionPointIsNotEmpty", revocation(issuing_point())),
     ("IssuingDistributionPointHasOneKind", revocation(issuing_point(tlv(0x81, b"\xff"), tlv(0x85, b"\xff")))),
-    ("EntryExtensionsStandOnce", revocation(entries=([REMOVED[:-1] + b"\1"], [REMOVED[:-1] + b"\1", REMOVED[:-1] + b"\2"]))),
+    ("EntryExtensionsStandOnce", revocation(entries=([AGAIN], [AGAIN, AGAIN]))),
     ("RemoveFromCrlOnlyInDelta", revocation(entries=([REMOVED],))),
 ]
 GOOD = [
@@ -124,6 +125,7 @@ GOOD = [
 ]
 GOOD_LISTS = [
     revocation(issuing_point(tlv(0x81, b"\xff"))),
+    revocation(revoked=LATE, entries=([AGAIN],)),
     revocation(extension(bytes.fromhex("551d1b"), integer(6), True), entries=([REMOVED],)),
 ]
 

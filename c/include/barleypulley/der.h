@@ -187,7 +187,7 @@ enum der_number {
 #define DER_LIST_CERTIFICATE_ISSUER_CRITICAL ((uint64_t)1 << 13)
 /* the version is 2 or absent (5.1.2.1) */
 #define DER_LIST_VERSION_2 ((uint64_t)1 << 14)
-/* dates through 2049 are UTCTimes (5.1.2.4, 5.1.2.5) */
+/* dates through 2049 are UTCTimes (5.1.2.4, 5.1.2.5, 5.1.2.6) */
 #define DER_LIST_DATES_THROUGH_2049_ARE_UTC_TIMES ((uint64_t)1 << 15)
 /* authorityKeyIdentifier has a keyIdentifier (5.2.1) */
 #define DER_LIST_AUTHORITY_HAS_KEY_IDENTIFIER ((uint64_t)1 << 16)

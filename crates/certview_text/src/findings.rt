@@ -190,11 +190,7 @@ fn is_not_critical(field: &'static str, extension: &'static [u8]) -> Finding {
 }
 
 /// Returns the finding for an extension that breaks a rule.
-fn of_extension(
-    field: &'static str,
-    extension: &'static [u8],
-    words: &'static str,
-) -> Finding {
+fn of_extension(field: &'static str, extension: &'static [u8], words: &'static str) -> Finding {
     Finding {
         field,
         extension,
@@ -243,7 +239,10 @@ fn certificate_field(rule: CertificateRule) -> Finding {
             "has a name with a text that is too long or too short",
         ),
         CertificateRule::TextsHaveStringTypes => {
-            of_field("tbsCertificate", "has a name with a text in another string type")
+            of_field(
+                "tbsCertificate",
+                "has a name with a text in another string type",
+            )
         }
         CertificateRule::PrintableStringsHaveTheirCharacters => of_field(
             "tbsCertificate",
@@ -253,6 +252,12 @@ fn certificate_field(rule: CertificateRule) -> Finding {
             "tbsCertificate",
             "has parameters of an algorithm of RFC 8410",
         ),
+        _ => certificate_name(rule),
+    }
+}
+
+fn certificate_name(rule: CertificateRule) -> Finding {
+    match rule {
         CertificateRule::MailboxesHaveSyntax => {
             of_field("extensions", "have an rfc822Name that is no mailbox")
         }
@@ -260,7 +265,10 @@ fn certificate_field(rule: CertificateRule) -> Finding {
             of_field("extensions", "have a dNSName that is no name of a host")
         }
         CertificateRule::UrisHaveSchemes => {
-            of_field("extensions", "have a URI with no scheme, or nothing after it")
+            of_field(
+                "extensions",
+                "have a URI with no scheme, or nothing after it",
+            )
         }
         CertificateRule::AddressesHave4Or16Octets => of_field(
             "extensions",
@@ -410,17 +418,36 @@ fn list_finding(rule: ListRule) -> Finding {
 }
 
 fn list_value(rule: ListRule) -> Finding {
-    let point = "issuingDistributionPoint";
     match rule {
         ListRule::VersionIs2 => of_field("version", "is not 2"),
         ListRule::DatesThrough2049AreUtcTimes => {
-            of_field("tbsCertList", "has a date through 2049 as a GeneralizedTime")
+            of_field(
+                "tbsCertList",
+                "has a date through 2049 as a GeneralizedTime",
+            )
         }
         ListRule::AuthorityHasKeyIdentifier => of_extension(
             "authorityKeyIdentifier",
             &ID_CE_AUTHORITY_KEY_IDENTIFIER,
             "has no keyIdentifier",
         ),
+        ListRule::EntryExtensionsStandOnce => {
+            of_field(
+                "revokedCertificates",
+                "has an entry with an extension twice",
+            )
+        }
+        ListRule::RemoveFromCrlOnlyInDelta => of_field(
+            "revokedCertificates",
+            "has removeFromCRL, and the list is no delta list",
+        ),
+        _ => list_point(rule),
+    }
+}
+
+fn list_point(rule: ListRule) -> Finding {
+    let point = "issuingDistributionPoint";
+    match rule {
         ListRule::CrlNumberIsThere => of_extension("cRLNumber", &ID_CE_CRL_NUMBER, "is absent"),
         ListRule::CrlNumberHasAtMost20Octets => of_extension(
             "cRLNumber",
@@ -434,13 +461,6 @@ fn list_value(rule: ListRule) -> Finding {
             point,
             &ID_CE_ISSUING_DISTRIBUTION_POINT,
             "has two kinds of certificates",
-        ),
-        ListRule::EntryExtensionsStandOnce => {
-            of_field("revokedCertificates", "has an entry with an extension twice")
-        }
-        ListRule::RemoveFromCrlOnlyInDelta => of_field(
-            "revokedCertificates",
-            "has removeFromCRL, and the list is no delta list",
         ),
         _ => list_criticality(rule),
     }

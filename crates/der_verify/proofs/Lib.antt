@@ -4,6 +4,7 @@ pub mod FindingOne
 pub mod FirstFields
 pub mod FirstValues
 pub mod Fronts
+pub mod FrontsAgree
 pub mod OtherRules
 pub mod Repeats
 pub mod ShownItems

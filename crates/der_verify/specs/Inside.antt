@@ -1,5 +1,5 @@
 -- The values of extensions that rules look into (RFC 5280 4.2.1, 5.2, 5.3). A value that is a SEQUENCE has the identifier 30 (48), a BIT STRING 03, an INTEGER 02 and an OBJECT IDENTIFIER 06; a field [0] has 80 (128), or A0 (160) if there are encodings in it.
-use Rattle.std.specs.Prelude.{ℕ, ◌/◌, ◌%◌, ◌==◌, nat_eq, nat_le, nat_lt, List, [], ◌∷◌, length, Bool, false, not, ◌&&◌, ◌||◌, Option, Some, None}
+use Rattle.std.specs.Prelude.{ℕ, ◌+◌, ◌*◌, ◌/◌, ◌%◌, ◌==◌, nat_eq, nat_le, nat_lt, List, [], ◌∷◌, length, Bool, false, not, ◌&&◌, ◌||◌, Option, Some, None}
 use Rattle.std.specs.Bool.{beq}
 use Rattle.std.specs.List.{list_any}
 use Rattle.std.specs.Cmp.Lexicographic.{pointwise}
@@ -97,6 +97,21 @@ is_negative (x ∷ xs) = nat_le 128 x
 
 abbrev pub is_odd_number : List ℕ → Bool
 is_odd_number value = is_negative (within 2 value) || nat_lt 20 (length (within 2 value))
+
+-- 5.1.2.6: a GeneralizedTime (24) with a year through 2049; 55377 are its digits in ASCII, times 1000, 100, 10 and 1
+abbrev pub begins_early : List ℕ → Bool
+begins_early (a ∷ (b ∷ (c ∷ (d ∷ text)))) = nat_le (a * 1000 + b * 100 + c * 10 + d) 55377
+begins_early _ = false
+
+abbrev pub is_early_date : Test
+is_early_date i contents others = i == 24 && begins_early contents
+
+abbrev pub is_early_entry : Test
+is_early_entry i contents others = one_is is_early_date contents
+
+-- one of the entries of a list has such a revocationDate
+abbrev pub has_early_date : List ℕ → Bool
+has_early_date entries = one_is is_early_entry entries
 
 -- 5.3.1: removeFromCRL (8), an ENUMERATED
 abbrev pub is_removed : List ℕ → Bool

@@ -15,7 +15,7 @@ use Rattle.der_pkix.specs.Crl.CertificateList as list
 use Rattle.der_pkix.specs.Crl.TbsCertList as tbs
 use Rattle.der_pkix.specs.Crl.RevokedCertificate as entry
 use Rattle.der_verify.specs.Extensions.{value_of, AreExtensions}
-use Rattle.der_verify.specs.Inside.{has_key_identifier, has_two_kinds, is_empty_sequence, is_odd_number, is_removed}
+use Rattle.der_verify.specs.Inside.{has_early_date, has_key_identifier, has_two_kinds, is_empty_sequence, is_odd_number, is_removed}
 use Rattle.der_verify.specs.Rfc5280.{breaks_criticality, has_criticality, has_repeated, id_ce, id_pe, is_absent, is_empty_name}
 use Rattle.der_verify.specs.Shown.{AreShown}
 use Rattle.der_verify.specs.Time.{is_early}
@@ -94,12 +94,17 @@ abbrev pub is_early_if_there : Option Time → Bool
 is_early_if_there None = false
 is_early_if_there (Some time) = is_early time
 
+-- the revocationDate of an entry, if there are entries, is through 2049 and a GeneralizedTime
+abbrev pub revokes_early : Option (ListRef RevokedCertificate) → Bool
+revokes_early None = false
+revokes_early (Some l) = has_early_date (list_ref.octets_of l)
+
 -- whether a list with these extensions and these entries breaks a rule about values
 abbrev pub list_breaks_inside : ListRule → TbsCertList → List Extension → List (Option (List Extension)) → Bool
 -- 5.1.2.1: "this field MUST be present and MUST specify version 2"; A.1: "if present, MUST be v2"
 list_breaks_inside rule.VersionIs2 c listed entries = is_other_version (tbs.version c)
--- 5.1.2.4, 5.1.2.5: "CRL issuers conforming to this profile MUST encode thisUpdate as UTCTime for dates through the year 2049"
-list_breaks_inside rule.DatesThrough2049AreUtcTimes c listed entries = is_early (tbs.this_update c) || is_early_if_there (tbs.next_update c)
+-- 5.1.2.4, 5.1.2.5, 5.1.2.6: "CRL issuers conforming to this profile MUST encode thisUpdate as UTCTime for dates through the year 2049"
+list_breaks_inside rule.DatesThrough2049AreUtcTimes c listed entries = is_early (tbs.this_update c) || is_early_if_there (tbs.next_update c) || revokes_early (tbs.revoked_certificates c)
 -- 5.2.1: "Conforming CRL issuers MUST use the key identifier method, and MUST include this extension in all CRLs issued."
 list_breaks_inside rule.AuthorityHasKeyIdentifier c listed entries = not (has_key_identifier (value_of (id_ce 35) listed))
 -- 5.2.3: "MUST include this extension in all CRLs"; "MUST NOT use CRLNumber values longer than 20 octets"

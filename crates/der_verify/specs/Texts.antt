@@ -28,13 +28,17 @@ may_be_string type string =
     else (if is_id_at (3 ∷ 4 ∷ 7 ∷ 8 ∷ 10 ∷ 11 ∷ 12 ∷ 41 ∷ 42 ∷ 43 ∷ 44 ∷ 65 ∷ []) type then is_directory_string string
     else true))
 
+-- the types of A.1
+abbrev pub is_known : List ℕ → Bool
+is_known type = is_id_at (3 ∷ 4 ∷ 5 ∷ 6 ∷ 7 ∷ 8 ∷ 10 ∷ 11 ∷ 12 ∷ 41 ∷ 42 ∷ 43 ∷ 44 ∷ 46 ∷ 65 ∷ []) type || (is domain_component type || is email_address type)
+
 -- B: letters, digits, space, and ' ( ) + , - . / : = ?
 abbrev pub is_printable : ℕ → Bool
 is_printable x = is_letter_or_digit x || (x == 32 || ((nat_le 39 x && nat_le x 41) || ((nat_le 43 x && nat_le x 47) || (x == 58 || (x == 61 || x == 63)))))
 
 -- whether the text of an attribute of this type breaks a rule
 abbrev pub breaks_text : TextRule → List ℕ → ℕ → List ℕ → Bool
-breaks_text Size type string text = not (may_be type (count_of string text))
+breaks_text Size type string text = is_known type && not (may_be type (count_of string text))
 breaks_text StringType type string text = not (may_be_string type string)
 breaks_text Characters type string text = string == 19 && not (list_all is_printable text)
 

@@ -3,7 +3,10 @@
 //! An identifier has one octet in RFC 5280's modules, and a length at most three octets after its
 //! first: octets in another form begin with no encoding.
 
-ghost use Rattle.std.specs.Prelude.{◌≡◌, ◌<◌, ◌≤◌, length, IfSome};
+ghost use Rattle.std.specs.Prelude.{◌≡◌, ℕ, ◌<◌, ◌≤◌, ◌^◌, List, [], ◌∷◌, ◌++◌, length, Some, IfSome};
+ghost use Rattle.der_tlv.specs.declared.tag.Tag.{Tag};
+ghost use Rattle.der_tlv.specs.HeaderOctets.{tlv};
+ghost use Rattle.der_tlv.specs.Identifier.{identifier};
 ghost use Rattle.der_verify.specs.Elements.{after_length, front_of, has_identifier, one_is, one_within, seen_front, seen_split, split_at, within};
 
 /// Returns the encoding at the front of octets: the first octet of its identifier, its contents
@@ -20,6 +23,13 @@ pub(crate) fn front<'a>(octets: &'a [u8]) -> Option<(u8, &'a [u8], &'a [u8])>
         None => None,
     }
 }
+
+/// What `front` finds is the encoding at the front (X.690 8.1.1), where its identifier has one
+/// octet and it has less than 16777216 contents octets.
+pub fn fronts_are_encodings()
+    ensures { (t : Tag) (i : ℕ) (c x : List ℕ) → identifier t ≡ i ∷ [] → length c < 2 ^ 24
+        → front_of (tlv t c ++ x) ≡ Some (i, c, x) }
+{}
 
 /// Returns the contents octets after a first length octet, and the octets after them.
 fn after_length<'a>(first: u8, octets: &'a [u8]) -> Option<(&'a [u8], &'a [u8])>

@@ -534,7 +534,7 @@ class ListRule(IntFlag):
     VERSION_IS_2 = 1 << 14
     """The version is 2 or absent (5.1.2.1)."""
     DATES_THROUGH_2049_ARE_UTC_TIMES = 1 << 15
-    """Dates through 2049 are UTCTimes (5.1.2.4, 5.1.2.5)."""
+    """Dates through 2049 are UTCTimes (5.1.2.4, 5.1.2.5, 5.1.2.6)."""
     AUTHORITY_HAS_KEY_IDENTIFIER = 1 << 16
     """authorityKeyIdentifier has a keyIdentifier (5.2.1)."""
     CRL_NUMBER_IS_THERE = 1 << 17

@@ -157,7 +157,7 @@ rules! {
         CertificateIssuerIsCritical "5.3.3"
         /// The version is 2 or absent (5.1.2.1).
         VersionIs2 "5.1.2.1"
-        /// Dates through 2049 are UTCTimes (5.1.2.4, 5.1.2.5).
+        /// Dates through 2049 are UTCTimes (5.1.2.4, 5.1.2.5, 5.1.2.6).
         DatesThrough2049AreUtcTimes "5.1.2.4"
         /// authorityKeyIdentifier has a keyIdentifier (5.2.1).
         AuthorityHasKeyIdentifier "5.2.1"

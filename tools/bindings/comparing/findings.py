@@ -12,7 +12,7 @@ from ..tables.rules import Rule, of_kind
 from .listing import line_at
 
 FILE = "crates/certview_text/src/findings.rt"
-BEFORE = ("finding", "field", "usage", "constraint", "value")  # the functions before `criticality`, each with a last arm `_`
+BEFORE = ("finding", "field", "name", "usage", "constraint", "value", "point")  # the functions before `criticality`, each with a last arm `_`
 CRITICALITY = re.compile(r"^(\w+)(?: of a CA|( of an entry))? is (not )?critical$")
 
 

@@ -3,7 +3,7 @@
 ghost use Rattle.std.specs.Prelude.{◌≡◌, ◌==◌, not};
 ghost use Rattle.std.specs.List.{list_any};
 ghost use Rattle.der_verify.specs.Elements.{one_within, within};
-ghost use Rattle.der_verify.specs.Inside.{bits_of, has_bit_5, has_distance, has_half_an_issuer, has_key_identifier, has_odd_address, has_one_bit, has_path_length, has_point_nowhere, has_two_kinds, is_empty_sequence, is_negative, is_odd_number, is_removed, maps_any_policy, repeats_policy, says, signs_certificates};
+ghost use Rattle.der_verify.specs.Inside.{begins_early, bits_of, has_bit_5, has_distance, has_early_date, has_half_an_issuer, has_key_identifier, has_odd_address, has_one_bit, has_path_length, has_point_nowhere, has_two_kinds, is_empty_sequence, is_negative, is_odd_number, is_removed, maps_any_policy, repeats_policy, says, signs_certificates};
 
 use crate::elements::{
     ContentsTest, ElementTest, front, has_identifier, one_is, one_within, within,
@@ -276,4 +276,50 @@ pub(crate) fn is_removed(value: &[u8]) -> bool
     ensures { result ≡ is_removed value.now }
 {
     value == [0x0a, 0x01, 0x08].as_slice()
+}
+
+/// Returns whether the revocationDate of one of the entries of a list is through 2049 and a
+/// GeneralizedTime.
+pub(crate) fn has_early_date(entries: &[u8]) -> bool
+    ensures { result ≡ has_early_date entries.now }
+{
+    one_is(entries, &IsEarlyEntry)
+}
+
+/// The test that a date of an entry is through 2049 and a GeneralizedTime.
+struct IsEarlyEntry;
+
+impl ElementTest for IsEarlyEntry {
+    ghost use Rattle.der_verify.specs.Inside.{is_early_entry};
+
+    ghost passes = { λ p. is_early_entry };
+
+    fn passes(&self, _identifier: u8, contents: &[u8], _others: &[u8]) -> bool {
+        one_is(contents, &IsEarlyDate)
+    }
+}
+
+/// The test that a field is a GeneralizedTime through 2049.
+struct IsEarlyDate;
+
+impl ElementTest for IsEarlyDate {
+    ghost use Rattle.der_verify.specs.Inside.{is_early_date};
+
+    ghost passes = { λ p. is_early_date };
+
+    fn passes(&self, identifier: u8, contents: &[u8], _others: &[u8]) -> bool {
+        identifier == 0x18 && begins_early(contents)
+    }
+}
+
+/// Returns whether the year that a text begins with, in four digits, is at most 2049.
+fn begins_early(text: &[u8]) -> bool
+    ensures { result ≡ begins_early text.now }
+{
+    match text {
+        [a, b, c, d, ..] => {
+            *a as u32 * 1000 + *b as u32 * 100 + *c as u32 * 10 + *d as u32 <= 55377
+        }
+        _ => false,
+    }
 }

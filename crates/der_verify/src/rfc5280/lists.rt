@@ -10,10 +10,10 @@ ghost use Rattle.der_pkix.specs.Crl.TbsCertList as tbs_fields;
 ghost use Rattle.der_verify.specs.Rfc5280.{seen_forbidden, AreListed};
 ghost use Rattle.der_verify.specs.Sections.{list_section};
 ghost use Rattle.der_verify.specs.Shown.{AreShown};
-ghost use Rattle.der_verify.specs.Rfc5280Lists.{entry_has_criticality, entry_has_extensions, forbidden_of_entry, forbidden_of_list, has_repeated_within, is_early_if_there, is_other_version, is_removed_within, is_version_2, list_breaks, list_breaks_inside, list_breaks_otherwise, list_breaks_within, list_rules, list_same_algorithms, AreEntries, EntryShows};
+ghost use Rattle.der_verify.specs.Rfc5280Lists.{entry_has_criticality, entry_has_extensions, forbidden_of_entry, forbidden_of_list, has_repeated_within, is_early_if_there, is_other_version, is_removed_within, is_version_2, list_breaks, list_breaks_inside, list_breaks_otherwise, list_breaks_within, list_rules, list_same_algorithms, revokes_early, AreEntries, EntryShows};
 
 use super::inside::{
-    has_key_identifier, has_two_kinds, is_empty_sequence, is_odd_number, is_removed,
+    has_early_date, has_key_identifier, has_two_kinds, is_empty_sequence, is_odd_number, is_removed,
 };
 use super::repeated::list_repeats;
 use super::values::{value_in, value_of_list};
@@ -65,7 +65,7 @@ pub enum ListRule {
     CertificateIssuerIsCritical,
     /// The version is 2 or absent (5.1.2.1).
     VersionIs2,
-    /// Dates through 2049 are UTCTimes (5.1.2.4, 5.1.2.5).
+    /// Dates through 2049 are UTCTimes (5.1.2.4, 5.1.2.5, 5.1.2.6).
     DatesThrough2049AreUtcTimes,
     /// authorityKeyIdentifier has a keyIdentifier (5.2.1).
     AuthorityHasKeyIdentifier,
@@ -301,7 +301,9 @@ impl ListRule {
         match self {
             ListRule::VersionIs2 => is_other_version(list.version()),
             ListRule::DatesThrough2049AreUtcTimes => {
-                is_early(list.this_update()) || is_early_if_there(list.next_update())
+                is_early(list.this_update())
+                    || is_early_if_there(list.next_update())
+                    || revokes_early(list)
             }
             ListRule::AuthorityHasKeyIdentifier => {
                 !has_key_identifier(value_of_list(alloc, list, &ID_CE_AUTHORITY_KEY_IDENTIFIER))
@@ -347,6 +349,16 @@ fn is_early_if_there(time: Option<Time>) -> bool
 {
     match time {
         Some(time) => is_early(time),
+        None => false,
+    }
+}
+
+/// Returns whether the revocationDate of an entry is through 2049 and a GeneralizedTime.
+fn revokes_early(list: &TbsCertList<'_>) -> bool
+    ensures { result ≡ revokes_early (tbs_fields.revoked_certificates list.now) }
+{
+    match list.revoked_certificates() {
+        Some(entries) => has_early_date(entries.as_bytes()),
         None => false,
     }
 }

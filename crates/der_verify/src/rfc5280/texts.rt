@@ -5,7 +5,7 @@ ghost use Rattle.std.specs.List.{list_all};
 ghost use Rattle.der_lists.specs.ListRef as list_ref;
 ghost use Rattle.der_pkix.specs.Name.RdnSequence as name_items;
 ghost use Rattle.der_verify.specs.Sizes.{may_be};
-ghost use Rattle.der_verify.specs.Texts.{breaks_name, breaks_text, count_of, is_directory_string, is_printable, may_be_string};
+ghost use Rattle.der_verify.specs.Texts.{breaks_name, breaks_text, count_of, is_directory_string, is_known, is_printable, may_be_string};
 
 use super::alternatives::is_letter_or_digit;
 use crate::bounds::{character_count, is_id_at, may_have};
@@ -55,10 +55,21 @@ fn breaks_text(rule: TextRule, type_: &[u8], string: u8, text: &[u8]) -> bool
     ensures { result ≡ breaks_text rule type_.now string text.now }
 {
     match rule {
-        TextRule::Size => !has_size(type_, string, text),
+        TextRule::Size => is_known(type_) && !has_size(type_, string, text),
         TextRule::StringType => !may_be_string(type_, string),
         TextRule::Characters => string == 0x13 && !are_printable(text),
     }
+}
+
+/// Returns whether A.1 has this type.
+fn is_known(type_: &[u8]) -> bool
+    ensures { result ≡ is_known type_.now }
+{
+    is_id_at(
+        &[3, 4, 5, 6, 7, 8, 10, 11, 12, 41, 42, 43, 44, 46, 65],
+        type_,
+    ) || type_ == ID_DOMAIN_COMPONENT.as_slice()
+        || type_ == ID_EMAIL_ADDRESS.as_slice()
 }
 
 /// Returns whether the text of an attribute has a number of characters that its type allows.

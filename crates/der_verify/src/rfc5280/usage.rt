@@ -37,6 +37,7 @@ impl CertificateRule {
         ensures { (listed : List Extension) → AreListed ⟦<Extension<'a> as Form>⟧ (tbs_fields.extensions certificate.now) listed
             → result ≡ breaks_usage self certificate.now listed }
     {
+        let authority = value_of(alloc, certificate, &ID_CE_AUTHORITY_KEY_IDENTIFIER);
         match self {
             CertificateRule::SubjectOfCaIsNotEmpty => {
                 is_empty_name(certificate.subject()) && is_ca(alloc, certificate)
@@ -46,16 +47,9 @@ impl CertificateRule {
                     && value_of(alloc, certificate, &ID_CE_SUBJECT_KEY_IDENTIFIER).is_empty()
             }
             CertificateRule::AuthorityHasKeyIdentifier => {
-                !is_self_issued(certificate)
-                    && !has_key_identifier(value_of(
-                        alloc,
-                        certificate,
-                        &ID_CE_AUTHORITY_KEY_IDENTIFIER,
-                    ))
+                !is_self_issued(certificate) && !has_key_identifier(authority)
             }
-            CertificateRule::AuthorityIssuerHasSerialNumber => {
-                has_half_an_issuer(value_of(alloc, certificate, &ID_CE_AUTHORITY_KEY_IDENTIFIER))
-            }
+            CertificateRule::AuthorityIssuerHasSerialNumber => has_half_an_issuer(authority),
             CertificateRule::CaHasKeyUsage => {
                 is_ca(alloc, certificate)
                     && value_of(alloc, certificate, &ID_CE_KEY_USAGE).is_empty()

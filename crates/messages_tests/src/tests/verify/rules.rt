@@ -176,7 +176,10 @@ fn each_rule_has_a_section(rt: HostRuntime) -> Result<(), Fail> {
         (CertificateRule::NameConstraintsOnlyInCa, "4.2.1.10"),
         (CertificateRule::NameConstraintsIsNotEmpty, "4.2.1.10"),
         (CertificateRule::NameConstraintsHasNoDistances, "4.2.1.10"),
-        (CertificateRule::ConstrainedAddressesHave8Or32Octets, "4.2.1.10"),
+        (
+            CertificateRule::ConstrainedAddressesHave8Or32Octets,
+            "4.2.1.10",
+        ),
         (CertificateRule::PolicyConstraintsIsNotEmpty, "4.2.1.11"),
         (CertificateRule::PoliciesStandOnce, "4.2.1.4"),
         (CertificateRule::AnyPolicyIsNotMapped, "4.2.1.5"),
