@@ -27,21 +27,21 @@ func (a AttributeTypeAndValue) Identifier() []byte { return Contents(a.Type()) }
 
 // NameAttributes gives the attributes of a name that was read, as the issuer of a certificate, in their order.
 func NameAttributes(name []byte) ([]AttributeTypeAndValue, error) {
-	var found []AttributeTypeAndValue
-	parts := Contents(name)
-	for len(parts) > 0 {
+	found := make([]AttributeTypeAndValue, 0, 8)
+	items := Items[AttributeTypeAndValue]{read: readAttributeTypeAndValue}
+	for parts := Contents(name); len(parts) > 0; {
 		part := firstEncoding(parts)
 		parts = parts[len(part):]
-		items := &Items[AttributeTypeAndValue]{left: Contents(part), read: readAttributeTypeAndValue}
+		items.left = Contents(part)
+		if len(items.left) == 0 {
+			_, err := readAttributeTypeAndValue(nil, &items.now, &items.fault)
+			return nil, err
+		}
 		for items.Next() {
 			found = append(found, items.Item())
 		}
 		if items.Err() != nil {
 			return nil, items.Err()
-		}
-		if len(Contents(part)) == 0 {
-			_, _, err := readAttributeTypeAndValue(nil)
-			return nil, err
 		}
 	}
 	return found, nil
@@ -49,20 +49,18 @@ func NameAttributes(name []byte) ([]AttributeTypeAndValue, error) {
 
 // firstEncoding gives the encoding at the front of octets; nothing where there is none.
 func firstEncoding(octets []byte) []byte {
-	var start C.der_place
-	address, count := first(octets)
-	return at(octets, C.der_next_encoding(address, count, &start))
+	_, end := header(octets)
+	return octets[:end:end]
 }
 
 // readAttributeTypeAndValue reads the attribute at the front of octets, and says how many it has.
-func readAttributeTypeAndValue(octets []byte) (AttributeTypeAndValue, int, error) {
-	var out C.der_attribute_type_and_value_at
-	var fault C.der_fault
+func readAttributeTypeAndValue(octets []byte, to *AttributeTypeAndValue, fault *C.der_fault) (int, error) {
 	address, count := first(octets)
-	if err := answered(C.der_attribute_type_and_value(address, count, &out, &fault), &fault); err != nil {
-		return AttributeTypeAndValue{}, 0, err
+	if err := answered(C.der_attribute_type_and_value(address, count, &to.at, fault), fault); err != nil {
+		return 0, err
 	}
-	return AttributeTypeAndValue{at(octets, out.whole), out}, int(out.whole.length), nil
+	to.octets = at(octets, to.at.whole)
+	return len(to.octets), nil
 }
 
 // Attribute is an attribute with a set of values (RFC 5652 5.3, RFC 2986 4.1).
@@ -88,14 +86,13 @@ func (a Attribute) Values() []byte { return at(a.octets, a.at.values) }
 func (a Attribute) Identifier() []byte { return Contents(a.Type()) }
 
 // readAttribute reads the attribute at the front of octets, and says how many it has.
-func readAttribute(octets []byte) (Attribute, int, error) {
-	var out C.der_attribute_at
-	var fault C.der_fault
+func readAttribute(octets []byte, to *Attribute, fault *C.der_fault) (int, error) {
 	address, count := first(octets)
-	if err := answered(C.der_attribute(address, count, &out, &fault), &fault); err != nil {
-		return Attribute{}, 0, err
+	if err := answered(C.der_attribute(address, count, &to.at, fault), fault); err != nil {
+		return 0, err
 	}
-	return Attribute{at(octets, out.whole), out}, int(out.whole.length), nil
+	to.octets = at(octets, to.at.whole)
+	return len(to.octets), nil
 }
 
 // Attributes goes over those of a field that was read, as attributes of a private key, in their order; over none of nil.

@@ -13,13 +13,12 @@ type Certificate struct {
 
 // ReadCertificate reads octets as a certificate, all of them. They must not change as long as the answer is used.
 func ReadCertificate(octets []byte) (*Certificate, error) {
-	var out C.der_certificate_at
-	var fault C.der_fault
+	read := reading[Certificate]{it: Certificate{octets: octets}}
 	address, count := first(octets)
-	if err := answered(C.der_certificate(address, count, &out, &fault), &fault); err != nil {
+	if err := answered(C.der_certificate(address, count, &read.it.at, &read.fault), &read.fault); err != nil {
 		return nil, err
 	}
-	return &Certificate{octets, out}, nil
+	return &read.it, nil
 }
 
 // Octets gives the whole certificate.
@@ -107,14 +106,13 @@ func (e Extension) Value() []byte { return Contents(e.ExtnValue()) }
 func (e Extension) IsCritical() bool { return e.at.is_critical == 1 }
 
 // readExtension reads the extension at the front of octets, and says how many it has.
-func readExtension(octets []byte) (Extension, int, error) {
-	var out C.der_extension_at
-	var fault C.der_fault
+func readExtension(octets []byte, to *Extension, fault *C.der_fault) (int, error) {
 	address, count := first(octets)
-	if err := answered(C.der_extension(address, count, &out, &fault), &fault); err != nil {
-		return Extension{}, 0, err
+	if err := answered(C.der_extension(address, count, &to.at, fault), fault); err != nil {
+		return 0, err
 	}
-	return Extension{at(octets, out.whole), out}, int(out.whole.length), nil
+	to.octets = at(octets, to.at.whole)
+	return len(to.octets), nil
 }
 
 // extensions goes over those of a list.

@@ -14,13 +14,12 @@ type CertificateList struct {
 // ReadCertificateList reads octets as a list of revoked certificates, all of them. They must not change as long as the answer
 // is used.
 func ReadCertificateList(octets []byte) (*CertificateList, error) {
-	var out C.der_certificate_list_at
-	var fault C.der_fault
+	read := reading[CertificateList]{it: CertificateList{octets: octets}}
 	address, count := first(octets)
-	if err := answered(C.der_certificate_list(address, count, &out, &fault), &fault); err != nil {
+	if err := answered(C.der_certificate_list(address, count, &read.it.at, &read.fault), &read.fault); err != nil {
 		return nil, err
 	}
-	return &CertificateList{octets, out}, nil
+	return &read.it, nil
 }
 
 // Octets gives the whole list.
@@ -102,12 +101,11 @@ func (r RevokedCertificate) Extensions() *Items[Extension] {
 }
 
 // readRevokedCertificate reads the entry at the front of octets, and says how many it has.
-func readRevokedCertificate(octets []byte) (RevokedCertificate, int, error) {
-	var out C.der_revoked_certificate_at
-	var fault C.der_fault
+func readRevokedCertificate(octets []byte, to *RevokedCertificate, fault *C.der_fault) (int, error) {
 	address, count := first(octets)
-	if err := answered(C.der_revoked_certificate(address, count, &out, &fault), &fault); err != nil {
-		return RevokedCertificate{}, 0, err
+	if err := answered(C.der_revoked_certificate(address, count, &to.at, fault), fault); err != nil {
+		return 0, err
 	}
-	return RevokedCertificate{at(octets, out.whole), out}, int(out.whole.length), nil
+	to.octets = at(octets, to.at.whole)
+	return len(to.octets), nil
 }

@@ -11,13 +11,12 @@ type ContentInfo struct {
 
 // ReadContentInfo reads octets as a ContentInfo, all of them. They must not change as long as the answer is used.
 func ReadContentInfo(octets []byte) (*ContentInfo, error) {
-	var out C.der_content_info_at
-	var fault C.der_fault
+	read := reading[ContentInfo]{it: ContentInfo{octets: octets}}
 	address, count := first(octets)
-	if err := answered(C.der_content_info(address, count, &out, &fault), &fault); err != nil {
+	if err := answered(C.der_content_info(address, count, &read.it.at, &read.fault), &read.fault); err != nil {
 		return nil, err
 	}
-	return &ContentInfo{octets, out}, nil
+	return &read.it, nil
 }
 
 // written by tools/bindings: fields of ContentInfo
@@ -39,13 +38,12 @@ type SignedData struct {
 
 // ReadSignedData reads octets as a SignedData, all of them. They must not change as long as the answer is used.
 func ReadSignedData(octets []byte) (*SignedData, error) {
-	var out C.der_signed_data_at
-	var fault C.der_fault
+	read := reading[SignedData]{it: SignedData{octets: octets}}
 	address, count := first(octets)
-	if err := answered(C.der_signed_data(address, count, &out, &fault), &fault); err != nil {
+	if err := answered(C.der_signed_data(address, count, &read.it.at, &read.fault), &read.fault); err != nil {
 		return nil, err
 	}
-	return &SignedData{octets, out}, nil
+	return &read.it, nil
 }
 
 // written by tools/bindings: fields of SignedData
@@ -82,14 +80,13 @@ type SignerInfo struct {
 }
 
 // readSignerInfo reads the signer at the front of octets, and says how many it has.
-func readSignerInfo(octets []byte) (SignerInfo, int, error) {
-	var out C.der_signer_info_at
-	var fault C.der_fault
+func readSignerInfo(octets []byte, to *SignerInfo, fault *C.der_fault) (int, error) {
 	address, count := first(octets)
-	if err := answered(C.der_signer_info(address, count, &out, &fault), &fault); err != nil {
-		return SignerInfo{}, 0, err
+	if err := answered(C.der_signer_info(address, count, &to.at, fault), fault); err != nil {
+		return 0, err
 	}
-	return SignerInfo{at(octets, out.whole), out}, int(out.whole.length), nil
+	to.octets = at(octets, to.at.whole)
+	return len(to.octets), nil
 }
 
 // Octets gives the whole SignerInfo.

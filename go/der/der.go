@@ -51,6 +51,12 @@ func (e *Error) Error() string {
 	return fmt.Sprintf("der: %s (%d), after %d octets", e.Words(), e.Number, e.Position)
 }
 
+// reading is a message that is read, and the fault for which it may be refused, in one piece of memory.
+type reading[T any] struct {
+	it    T
+	fault C.der_fault
+}
+
 // answered is what a call answered: no error, or the fault that it wrote.
 func answered(number C.uint32_t, fault *C.der_fault) error {
 	if number == 0 {
@@ -81,15 +87,46 @@ func seconds(count C.uint64_t) time.Time {
 	return time.Unix(int64(count), 0).UTC()
 }
 
+// header finds the end of the identifier and length octets at the front of octets, and the end of the contents octets behind
+// them (X.690 8.1.1); 0 and 0 if the octets have no encoding there. It calls no C, which takes longer than this.
+func header(octets []byte) (start, end int) {
+	at := 1
+	if len(octets) > 0 && octets[0]&0x1f == 0x1f {
+		for at < len(octets) && octets[at] >= 0x80 {
+			at++
+		}
+		at++
+	}
+	if at >= len(octets) {
+		return 0, 0
+	}
+	length := int64(octets[at])
+	at++
+	if length >= 0x80 {
+		count := int(length - 0x80)
+		if count == 0 || count > 4 || count > len(octets)-at {
+			return 0, 0
+		}
+		length = 0
+		for _, octet := range octets[at : at+count] {
+			length = length<<8 | int64(octet)
+		}
+		at += count
+	}
+	if length > int64(len(octets)-at) {
+		return 0, 0
+	}
+	return at, at + int(length)
+}
+
 // Contents gives the contents octets of an encoding that was read, as a field of a certificate: 05 of 02 01 05. Of other
 // octets the answer is some of them.
 func Contents(encoding []byte) []byte {
-	octets, count := first(encoding)
-	whole := C.der_place{length: C.UINT32_MAX}
-	if count < C.UINT32_MAX {
-		whole.length = C.uint32_t(count)
+	start, end := header(encoding)
+	if start == end {
+		return nil
 	}
-	return at(encoding, C.der_contents(octets, count, &whole))
+	return encoding[start:end:end]
 }
 
 // SignedOctets gives the octets that the signature of a certificate covers, of a list of revoked ones, of a request or of an

@@ -275,6 +275,40 @@ func TestRefused(t *testing.T) {
 	}
 }
 
+// contentsBesideASN1 compares each encoding with what package asn1 finds, and those in its contents octets.
+func contentsBesideASN1(t *testing.T, octets []byte) {
+	for len(octets) > 0 {
+		var want asn1.RawValue
+		rest, err := asn1.Unmarshal(octets, &want)
+		if err != nil {
+			t.Fatal(err)
+		}
+		same(t, "encoding", firstEncoding(octets), want.FullBytes)
+		same(t, "contents", Contents(octets), want.Bytes)
+		if want.IsCompound {
+			contentsBesideASN1(t, want.Bytes)
+		}
+		octets = rest
+	}
+}
+
+func TestContentsBesideASN1(t *testing.T) {
+	certificates, _ := certificates(t)
+	for _, one := range certificates {
+		contentsBesideASN1(t, one.Octets())
+	}
+	for _, octets := range [][]byte{{0x1f, 0x81, 0x01, 0x00}, {0x30, 0x82, 0x00, 0x01, 0x05}, {0x9f, 0x81, 0x00, 0x01, 0x07}} {
+		if _, end := header(octets); end != len(octets) {
+			t.Errorf("%x: %d octets", octets, end)
+		}
+	}
+	for _, octets := range [][]byte{{}, {0x30}, {0x1f}, {0x1f, 0x81}, {0x30, 0x80}, {0x30, 0x85, 0, 0, 0, 0, 0}, {0x30, 0x82, 1}, {0x30, 0x01}, {0x30, 0x84, 0xff, 0xff, 0xff, 0xff}} {
+		if start, end := header(octets); start != 0 || end != 0 {
+			t.Errorf("%x has no encoding, and not one to %d", octets, end)
+		}
+	}
+}
+
 func TestAnyOctetsHaveSomeContents(t *testing.T) {
 	for _, octets := range [][]byte{nil, {}, {0x30}, {0x30, 0x84, 255, 255, 255, 255}, bytes.Repeat([]byte{255}, 9)} {
 		if len(Contents(octets)) > len(octets) || len(SignedOctets(octets)) > len(octets) {

@@ -19,13 +19,12 @@ type AlgorithmIdentifier struct {
 // ReadAlgorithmIdentifier reads all octets as an algorithm identifier. They must not change as long as the result is
 // used.
 func ReadAlgorithmIdentifier(octets []byte) (*AlgorithmIdentifier, error) {
-	var out C.der_algorithm_identifier_at
-	var fault C.der_fault
+	read := reading[AlgorithmIdentifier]{it: AlgorithmIdentifier{octets: octets}}
 	address, count := first(octets)
-	if err := answered(C.der_algorithm_identifier(address, count, &out, &fault), &fault); err != nil {
+	if err := answered(C.der_algorithm_identifier(address, count, &read.it.at, &read.fault), &read.fault); err != nil {
 		return nil, err
 	}
-	return &AlgorithmIdentifier{octets, out}, nil
+	return &read.it, nil
 }
 
 // Oid returns oid, an OBJECT IDENTIFIER.
@@ -44,13 +43,12 @@ type RSASSAPSSParams struct {
 // ReadRSASSAPSSParams reads all octets as a set of parameters of RSASSA-PSS. They must not change as long as the result
 // is used.
 func ReadRSASSAPSSParams(octets []byte) (*RSASSAPSSParams, error) {
-	var out C.der_rsassa_pss_params_at
-	var fault C.der_fault
+	read := reading[RSASSAPSSParams]{it: RSASSAPSSParams{octets: octets}}
 	address, count := first(octets)
-	if err := answered(C.der_rsassa_pss_params(address, count, &out, &fault), &fault); err != nil {
+	if err := answered(C.der_rsassa_pss_params(address, count, &read.it.at, &read.fault), &read.fault); err != nil {
 		return nil, err
 	}
-	return &RSASSAPSSParams{octets, out}, nil
+	return &read.it, nil
 }
 
 // HashAlgorithm returns hashAlgorithm, an AlgorithmIdentifier, with the explicit tag [0]; nil if absent.
@@ -74,13 +72,12 @@ type ECDSASigValue struct {
 
 // ReadECDSASigValue reads all octets as an ECDSA signature. They must not change as long as the result is used.
 func ReadECDSASigValue(octets []byte) (*ECDSASigValue, error) {
-	var out C.der_ecdsa_sig_value_at
-	var fault C.der_fault
+	read := reading[ECDSASigValue]{it: ECDSASigValue{octets: octets}}
 	address, count := first(octets)
-	if err := answered(C.der_ecdsa_sig_value(address, count, &out, &fault), &fault); err != nil {
+	if err := answered(C.der_ecdsa_sig_value(address, count, &read.it.at, &read.fault), &read.fault); err != nil {
 		return nil, err
 	}
-	return &ECDSASigValue{octets, out}, nil
+	return &read.it, nil
 }
 
 // R returns r, an INTEGER.
@@ -97,13 +94,12 @@ type PBES2Params struct {
 
 // ReadPBES2Params reads all octets as a set of parameters of PBES2. They must not change as long as the result is used.
 func ReadPBES2Params(octets []byte) (*PBES2Params, error) {
-	var out C.der_pbes2_params_at
-	var fault C.der_fault
+	read := reading[PBES2Params]{it: PBES2Params{octets: octets}}
 	address, count := first(octets)
-	if err := answered(C.der_pbes2_params(address, count, &out, &fault), &fault); err != nil {
+	if err := answered(C.der_pbes2_params(address, count, &read.it.at, &read.fault), &read.fault); err != nil {
 		return nil, err
 	}
-	return &PBES2Params{octets, out}, nil
+	return &read.it, nil
 }
 
 // KeyDerivationFunc returns keyDerivationFunc, an AlgorithmIdentifier.
@@ -121,13 +117,12 @@ type PBKDF2Params struct {
 // ReadPBKDF2Params reads all octets as a set of parameters of PBKDF2. They must not change as long as the result is
 // used.
 func ReadPBKDF2Params(octets []byte) (*PBKDF2Params, error) {
-	var out C.der_pbkdf2_params_at
-	var fault C.der_fault
+	read := reading[PBKDF2Params]{it: PBKDF2Params{octets: octets}}
 	address, count := first(octets)
-	if err := answered(C.der_pbkdf2_params(address, count, &out, &fault), &fault); err != nil {
+	if err := answered(C.der_pbkdf2_params(address, count, &read.it.at, &read.fault), &read.fault); err != nil {
 		return nil, err
 	}
-	return &PBKDF2Params{octets, out}, nil
+	return &read.it, nil
 }
 
 // Salt returns salt, a CHOICE: an OCTET STRING, or an AlgorithmIdentifier.
@@ -150,13 +145,12 @@ type RSAPublicKey struct {
 
 // ReadRSAPublicKey reads all octets as a public key of RSA. They must not change as long as the result is used.
 func ReadRSAPublicKey(octets []byte) (*RSAPublicKey, error) {
-	var out C.der_rsa_public_key_at
-	var fault C.der_fault
+	read := reading[RSAPublicKey]{it: RSAPublicKey{octets: octets}}
 	address, count := first(octets)
-	if err := answered(C.der_rsa_public_key(address, count, &out, &fault), &fault); err != nil {
+	if err := answered(C.der_rsa_public_key(address, count, &read.it.at, &read.fault), &read.fault); err != nil {
 		return nil, err
 	}
-	return &RSAPublicKey{octets, out}, nil
+	return &read.it, nil
 }
 
 // Modulus returns modulus, an INTEGER.
@@ -173,13 +167,12 @@ type RSAPrivateKey struct {
 
 // ReadRSAPrivateKey reads all octets as a private key of RSA. They must not change as long as the result is used.
 func ReadRSAPrivateKey(octets []byte) (*RSAPrivateKey, error) {
-	var out C.der_rsa_private_key_at
-	var fault C.der_fault
+	read := reading[RSAPrivateKey]{it: RSAPrivateKey{octets: octets}}
 	address, count := first(octets)
-	if err := answered(C.der_rsa_private_key(address, count, &out, &fault), &fault); err != nil {
+	if err := answered(C.der_rsa_private_key(address, count, &read.it.at, &read.fault), &read.fault); err != nil {
 		return nil, err
 	}
-	return &RSAPrivateKey{octets, out}, nil
+	return &read.it, nil
 }
 
 // Version returns version, an INTEGER.
@@ -226,13 +219,12 @@ type ECPrivateKey struct {
 // ReadECPrivateKey reads all octets as a private key of an elliptic curve. They must not change as long as the result
 // is used.
 func ReadECPrivateKey(octets []byte) (*ECPrivateKey, error) {
-	var out C.der_ec_private_key_at
-	var fault C.der_fault
+	read := reading[ECPrivateKey]{it: ECPrivateKey{octets: octets}}
 	address, count := first(octets)
-	if err := answered(C.der_ec_private_key(address, count, &out, &fault), &fault); err != nil {
+	if err := answered(C.der_ec_private_key(address, count, &read.it.at, &read.fault), &read.fault); err != nil {
 		return nil, err
 	}
-	return &ECPrivateKey{octets, out}, nil
+	return &read.it, nil
 }
 
 // Version returns version, an INTEGER.
@@ -262,13 +254,12 @@ type EncryptedPrivateKeyInfo struct {
 // ReadEncryptedPrivateKeyInfo reads all octets as an encrypted private key. They must not change as long as the result
 // is used.
 func ReadEncryptedPrivateKeyInfo(octets []byte) (*EncryptedPrivateKeyInfo, error) {
-	var out C.der_encrypted_private_key_info_at
-	var fault C.der_fault
+	read := reading[EncryptedPrivateKeyInfo]{it: EncryptedPrivateKeyInfo{octets: octets}}
 	address, count := first(octets)
-	if err := answered(C.der_encrypted_private_key_info(address, count, &out, &fault), &fault); err != nil {
+	if err := answered(C.der_encrypted_private_key_info(address, count, &read.it.at, &read.fault), &read.fault); err != nil {
 		return nil, err
 	}
-	return &EncryptedPrivateKeyInfo{octets, out}, nil
+	return &read.it, nil
 }
 
 // EncryptionAlgorithm returns encryptionAlgorithm, an AlgorithmIdentifier.
@@ -290,13 +281,12 @@ type AuthorityKeyIdentifier struct {
 // ReadAuthorityKeyIdentifier reads all octets as an authority key identifier. They must not change as long as the
 // result is used.
 func ReadAuthorityKeyIdentifier(octets []byte) (*AuthorityKeyIdentifier, error) {
-	var out C.der_authority_key_identifier_at
-	var fault C.der_fault
+	read := reading[AuthorityKeyIdentifier]{it: AuthorityKeyIdentifier{octets: octets}}
 	address, count := first(octets)
-	if err := answered(C.der_authority_key_identifier(address, count, &out, &fault), &fault); err != nil {
+	if err := answered(C.der_authority_key_identifier(address, count, &read.it.at, &read.fault), &read.fault); err != nil {
 		return nil, err
 	}
-	return &AuthorityKeyIdentifier{octets, out}, nil
+	return &read.it, nil
 }
 
 // KeyIdentifier returns keyIdentifier, an OCTET STRING, with the implicit tag [0]; nil if absent.
@@ -320,13 +310,12 @@ type PolicyInformation struct {
 
 // ReadPolicyInformation reads all octets as a certificate policy. They must not change as long as the result is used.
 func ReadPolicyInformation(octets []byte) (*PolicyInformation, error) {
-	var out C.der_policy_information_at
-	var fault C.der_fault
+	read := reading[PolicyInformation]{it: PolicyInformation{octets: octets}}
 	address, count := first(octets)
-	if err := answered(C.der_policy_information(address, count, &out, &fault), &fault); err != nil {
+	if err := answered(C.der_policy_information(address, count, &read.it.at, &read.fault), &read.fault); err != nil {
 		return nil, err
 	}
-	return &PolicyInformation{octets, out}, nil
+	return &read.it, nil
 }
 
 // PolicyIdentifier returns policyIdentifier, an OBJECT IDENTIFIER.
@@ -347,13 +336,12 @@ type PolicyQualifierInfo struct {
 
 // ReadPolicyQualifierInfo reads all octets as a policy qualifier. They must not change as long as the result is used.
 func ReadPolicyQualifierInfo(octets []byte) (*PolicyQualifierInfo, error) {
-	var out C.der_policy_qualifier_info_at
-	var fault C.der_fault
+	read := reading[PolicyQualifierInfo]{it: PolicyQualifierInfo{octets: octets}}
 	address, count := first(octets)
-	if err := answered(C.der_policy_qualifier_info(address, count, &out, &fault), &fault); err != nil {
+	if err := answered(C.der_policy_qualifier_info(address, count, &read.it.at, &read.fault), &read.fault); err != nil {
 		return nil, err
 	}
-	return &PolicyQualifierInfo{octets, out}, nil
+	return &read.it, nil
 }
 
 // PolicyQualifierId returns policyQualifierId, an OBJECT IDENTIFIER.
@@ -372,13 +360,12 @@ type PolicyMapping struct {
 
 // ReadPolicyMapping reads all octets as a policy mapping. They must not change as long as the result is used.
 func ReadPolicyMapping(octets []byte) (*PolicyMapping, error) {
-	var out C.der_policy_mapping_at
-	var fault C.der_fault
+	read := reading[PolicyMapping]{it: PolicyMapping{octets: octets}}
 	address, count := first(octets)
-	if err := answered(C.der_policy_mapping(address, count, &out, &fault), &fault); err != nil {
+	if err := answered(C.der_policy_mapping(address, count, &read.it.at, &read.fault), &read.fault); err != nil {
 		return nil, err
 	}
-	return &PolicyMapping{octets, out}, nil
+	return &read.it, nil
 }
 
 // IssuerDomainPolicy returns issuerDomainPolicy, an OBJECT IDENTIFIER.
@@ -400,13 +387,12 @@ type BasicConstraints struct {
 // ReadBasicConstraints reads all octets as a set of basic constraints. They must not change as long as the result is
 // used.
 func ReadBasicConstraints(octets []byte) (*BasicConstraints, error) {
-	var out C.der_basic_constraints_at
-	var fault C.der_fault
+	read := reading[BasicConstraints]{it: BasicConstraints{octets: octets}}
 	address, count := first(octets)
-	if err := answered(C.der_basic_constraints(address, count, &out, &fault), &fault); err != nil {
+	if err := answered(C.der_basic_constraints(address, count, &read.it.at, &read.fault), &read.fault); err != nil {
 		return nil, err
 	}
-	return &BasicConstraints{octets, out}, nil
+	return &read.it, nil
 }
 
 // CA returns cA, a BOOLEAN; absent where it is the default, FALSE; nil if absent.
@@ -426,13 +412,12 @@ type NameConstraints struct {
 // ReadNameConstraints reads all octets as a set of name constraints. They must not change as long as the result is
 // used.
 func ReadNameConstraints(octets []byte) (*NameConstraints, error) {
-	var out C.der_name_constraints_at
-	var fault C.der_fault
+	read := reading[NameConstraints]{it: NameConstraints{octets: octets}}
 	address, count := first(octets)
-	if err := answered(C.der_name_constraints(address, count, &out, &fault), &fault); err != nil {
+	if err := answered(C.der_name_constraints(address, count, &read.it.at, &read.fault), &read.fault); err != nil {
 		return nil, err
 	}
-	return &NameConstraints{octets, out}, nil
+	return &read.it, nil
 }
 
 // PermittedSubtrees returns permittedSubtrees, a SEQUENCE OF GeneralSubtree, with the implicit tag [0]; nil if absent.
@@ -451,13 +436,12 @@ type GeneralSubtree struct {
 
 // ReadGeneralSubtree reads all octets as a subtree of names. They must not change as long as the result is used.
 func ReadGeneralSubtree(octets []byte) (*GeneralSubtree, error) {
-	var out C.der_general_subtree_at
-	var fault C.der_fault
+	read := reading[GeneralSubtree]{it: GeneralSubtree{octets: octets}}
 	address, count := first(octets)
-	if err := answered(C.der_general_subtree(address, count, &out, &fault), &fault); err != nil {
+	if err := answered(C.der_general_subtree(address, count, &read.it.at, &read.fault), &read.fault); err != nil {
 		return nil, err
 	}
-	return &GeneralSubtree{octets, out}, nil
+	return &read.it, nil
 }
 
 // Base returns base, a GeneralName.
@@ -478,13 +462,12 @@ type PolicyConstraints struct {
 // ReadPolicyConstraints reads all octets as a set of policy constraints. They must not change as long as the result is
 // used.
 func ReadPolicyConstraints(octets []byte) (*PolicyConstraints, error) {
-	var out C.der_policy_constraints_at
-	var fault C.der_fault
+	read := reading[PolicyConstraints]{it: PolicyConstraints{octets: octets}}
 	address, count := first(octets)
-	if err := answered(C.der_policy_constraints(address, count, &out, &fault), &fault); err != nil {
+	if err := answered(C.der_policy_constraints(address, count, &read.it.at, &read.fault), &read.fault); err != nil {
 		return nil, err
 	}
-	return &PolicyConstraints{octets, out}, nil
+	return &read.it, nil
 }
 
 // RequireExplicitPolicy returns requireExplicitPolicy, an INTEGER, with the implicit tag [0]; nil if absent.
@@ -505,13 +488,12 @@ type DistributionPoint struct {
 
 // ReadDistributionPoint reads all octets as a distribution point. They must not change as long as the result is used.
 func ReadDistributionPoint(octets []byte) (*DistributionPoint, error) {
-	var out C.der_distribution_point_at
-	var fault C.der_fault
+	read := reading[DistributionPoint]{it: DistributionPoint{octets: octets}}
 	address, count := first(octets)
-	if err := answered(C.der_distribution_point(address, count, &out, &fault), &fault); err != nil {
+	if err := answered(C.der_distribution_point(address, count, &read.it.at, &read.fault), &read.fault); err != nil {
 		return nil, err
 	}
-	return &DistributionPoint{octets, out}, nil
+	return &read.it, nil
 }
 
 // DistributionPoint returns distributionPoint, a CHOICE of fullName, with the implicit tag [0], and
@@ -534,13 +516,12 @@ type AccessDescription struct {
 
 // ReadAccessDescription reads all octets as an access description. They must not change as long as the result is used.
 func ReadAccessDescription(octets []byte) (*AccessDescription, error) {
-	var out C.der_access_description_at
-	var fault C.der_fault
+	read := reading[AccessDescription]{it: AccessDescription{octets: octets}}
 	address, count := first(octets)
-	if err := answered(C.der_access_description(address, count, &out, &fault), &fault); err != nil {
+	if err := answered(C.der_access_description(address, count, &read.it.at, &read.fault), &read.fault); err != nil {
 		return nil, err
 	}
-	return &AccessDescription{octets, out}, nil
+	return &read.it, nil
 }
 
 // AccessMethod returns accessMethod, an OBJECT IDENTIFIER.
@@ -558,13 +539,12 @@ type IssuingDistributionPoint struct {
 // ReadIssuingDistributionPoint reads all octets as an issuing distribution point. They must not change as long as the
 // result is used.
 func ReadIssuingDistributionPoint(octets []byte) (*IssuingDistributionPoint, error) {
-	var out C.der_issuing_distribution_point_at
-	var fault C.der_fault
+	read := reading[IssuingDistributionPoint]{it: IssuingDistributionPoint{octets: octets}}
 	address, count := first(octets)
-	if err := answered(C.der_issuing_distribution_point(address, count, &out, &fault), &fault); err != nil {
+	if err := answered(C.der_issuing_distribution_point(address, count, &read.it.at, &read.fault), &read.fault); err != nil {
 		return nil, err
 	}
-	return &IssuingDistributionPoint{octets, out}, nil
+	return &read.it, nil
 }
 
 // DistributionPoint returns distributionPoint, a CHOICE of fullName, with the implicit tag [0], and
@@ -608,13 +588,12 @@ type OCSPRequest struct {
 
 // ReadOCSPRequest reads all octets as an OCSP request. They must not change as long as the result is used.
 func ReadOCSPRequest(octets []byte) (*OCSPRequest, error) {
-	var out C.der_ocsp_request_at
-	var fault C.der_fault
+	read := reading[OCSPRequest]{it: OCSPRequest{octets: octets}}
 	address, count := first(octets)
-	if err := answered(C.der_ocsp_request(address, count, &out, &fault), &fault); err != nil {
+	if err := answered(C.der_ocsp_request(address, count, &read.it.at, &read.fault), &read.fault); err != nil {
 		return nil, err
 	}
-	return &OCSPRequest{octets, out}, nil
+	return &read.it, nil
 }
 
 // TBSRequest returns tbsRequest, a TBSRequest.
@@ -631,13 +610,12 @@ type TBSRequest struct {
 
 // ReadTBSRequest reads all octets as a body of an OCSP request. They must not change as long as the result is used.
 func ReadTBSRequest(octets []byte) (*TBSRequest, error) {
-	var out C.der_tbs_request_at
-	var fault C.der_fault
+	read := reading[TBSRequest]{it: TBSRequest{octets: octets}}
 	address, count := first(octets)
-	if err := answered(C.der_tbs_request(address, count, &out, &fault), &fault); err != nil {
+	if err := answered(C.der_tbs_request(address, count, &read.it.at, &read.fault), &read.fault); err != nil {
 		return nil, err
 	}
-	return &TBSRequest{octets, out}, nil
+	return &read.it, nil
 }
 
 // Version returns version, an INTEGER, with the explicit tag [0]; absent where it is the default, v1; nil if absent.
@@ -660,13 +638,12 @@ type Request struct {
 
 // ReadRequest reads all octets as a request about one certificate. They must not change as long as the result is used.
 func ReadRequest(octets []byte) (*Request, error) {
-	var out C.der_request_at
-	var fault C.der_fault
+	read := reading[Request]{it: Request{octets: octets}}
 	address, count := first(octets)
-	if err := answered(C.der_request(address, count, &out, &fault), &fault); err != nil {
+	if err := answered(C.der_request(address, count, &read.it.at, &read.fault), &read.fault); err != nil {
 		return nil, err
 	}
-	return &Request{octets, out}, nil
+	return &read.it, nil
 }
 
 // ReqCert returns reqCert, a CertID.
@@ -687,13 +664,12 @@ type CertID struct {
 // ReadCertID reads all octets as a certificate's identifier in OCSP. They must not change as long as the result is
 // used.
 func ReadCertID(octets []byte) (*CertID, error) {
-	var out C.der_cert_id_at
-	var fault C.der_fault
+	read := reading[CertID]{it: CertID{octets: octets}}
 	address, count := first(octets)
-	if err := answered(C.der_cert_id(address, count, &out, &fault), &fault); err != nil {
+	if err := answered(C.der_cert_id(address, count, &read.it.at, &read.fault), &read.fault); err != nil {
 		return nil, err
 	}
-	return &CertID{octets, out}, nil
+	return &read.it, nil
 }
 
 // HashAlgorithm returns hashAlgorithm, an AlgorithmIdentifier.
@@ -717,13 +693,12 @@ type IssuerAndSerialNumber struct {
 // ReadIssuerAndSerialNumber reads all octets as an issuer and serial number. They must not change as long as the result
 // is used.
 func ReadIssuerAndSerialNumber(octets []byte) (*IssuerAndSerialNumber, error) {
-	var out C.der_issuer_and_serial_number_at
-	var fault C.der_fault
+	read := reading[IssuerAndSerialNumber]{it: IssuerAndSerialNumber{octets: octets}}
 	address, count := first(octets)
-	if err := answered(C.der_issuer_and_serial_number(address, count, &out, &fault), &fault); err != nil {
+	if err := answered(C.der_issuer_and_serial_number(address, count, &read.it.at, &read.fault), &read.fault); err != nil {
 		return nil, err
 	}
-	return &IssuerAndSerialNumber{octets, out}, nil
+	return &read.it, nil
 }
 
 // Issuer returns issuer, a Name.
@@ -740,13 +715,12 @@ type EnvelopedData struct {
 
 // ReadEnvelopedData reads all octets as an enveloped message. They must not change as long as the result is used.
 func ReadEnvelopedData(octets []byte) (*EnvelopedData, error) {
-	var out C.der_enveloped_data_at
-	var fault C.der_fault
+	read := reading[EnvelopedData]{it: EnvelopedData{octets: octets}}
 	address, count := first(octets)
-	if err := answered(C.der_enveloped_data(address, count, &out, &fault), &fault); err != nil {
+	if err := answered(C.der_enveloped_data(address, count, &read.it.at, &read.fault), &read.fault); err != nil {
 		return nil, err
 	}
-	return &EnvelopedData{octets, out}, nil
+	return &read.it, nil
 }
 
 // Version returns version, an INTEGER.
@@ -775,13 +749,12 @@ type EncryptedContentInfo struct {
 // ReadEncryptedContentInfo reads all octets as an encrypted content. They must not change as long as the result is
 // used.
 func ReadEncryptedContentInfo(octets []byte) (*EncryptedContentInfo, error) {
-	var out C.der_encrypted_content_info_at
-	var fault C.der_fault
+	read := reading[EncryptedContentInfo]{it: EncryptedContentInfo{octets: octets}}
 	address, count := first(octets)
-	if err := answered(C.der_encrypted_content_info(address, count, &out, &fault), &fault); err != nil {
+	if err := answered(C.der_encrypted_content_info(address, count, &read.it.at, &read.fault), &read.fault); err != nil {
 		return nil, err
 	}
-	return &EncryptedContentInfo{octets, out}, nil
+	return &read.it, nil
 }
 
 // ContentType returns contentType, an OBJECT IDENTIFIER.
@@ -806,13 +779,12 @@ type KeyTransRecipientInfo struct {
 // ReadKeyTransRecipientInfo reads all octets as a recipient with a key that is transported. They must not change as
 // long as the result is used.
 func ReadKeyTransRecipientInfo(octets []byte) (*KeyTransRecipientInfo, error) {
-	var out C.der_key_trans_recipient_info_at
-	var fault C.der_fault
+	read := reading[KeyTransRecipientInfo]{it: KeyTransRecipientInfo{octets: octets}}
 	address, count := first(octets)
-	if err := answered(C.der_key_trans_recipient_info(address, count, &out, &fault), &fault); err != nil {
+	if err := answered(C.der_key_trans_recipient_info(address, count, &read.it.at, &read.fault), &read.fault); err != nil {
 		return nil, err
 	}
-	return &KeyTransRecipientInfo{octets, out}, nil
+	return &read.it, nil
 }
 
 // Version returns version, an INTEGER.
@@ -837,13 +809,12 @@ type EncryptedData struct {
 
 // ReadEncryptedData reads all octets as an encrypted message. They must not change as long as the result is used.
 func ReadEncryptedData(octets []byte) (*EncryptedData, error) {
-	var out C.der_encrypted_data_at
-	var fault C.der_fault
+	read := reading[EncryptedData]{it: EncryptedData{octets: octets}}
 	address, count := first(octets)
-	if err := answered(C.der_encrypted_data(address, count, &out, &fault), &fault); err != nil {
+	if err := answered(C.der_encrypted_data(address, count, &read.it.at, &read.fault), &read.fault); err != nil {
 		return nil, err
 	}
-	return &EncryptedData{octets, out}, nil
+	return &read.it, nil
 }
 
 // Version returns version, an INTEGER.
@@ -866,13 +837,12 @@ type SigningCertificateV2 struct {
 // ReadSigningCertificateV2 reads all octets as a list of the certificates of a signer. They must not change as long as
 // the result is used.
 func ReadSigningCertificateV2(octets []byte) (*SigningCertificateV2, error) {
-	var out C.der_signing_certificate_v2_at
-	var fault C.der_fault
+	read := reading[SigningCertificateV2]{it: SigningCertificateV2{octets: octets}}
 	address, count := first(octets)
-	if err := answered(C.der_signing_certificate_v2(address, count, &out, &fault), &fault); err != nil {
+	if err := answered(C.der_signing_certificate_v2(address, count, &read.it.at, &read.fault), &read.fault); err != nil {
 		return nil, err
 	}
-	return &SigningCertificateV2{octets, out}, nil
+	return &read.it, nil
 }
 
 // Certs returns certs, a SEQUENCE OF ESSCertIDv2.
@@ -889,13 +859,12 @@ type ESSCertIDv2 struct {
 
 // ReadESSCertIDv2 reads all octets as a certificate's hash value. They must not change as long as the result is used.
 func ReadESSCertIDv2(octets []byte) (*ESSCertIDv2, error) {
-	var out C.der_ess_cert_idv2_at
-	var fault C.der_fault
+	read := reading[ESSCertIDv2]{it: ESSCertIDv2{octets: octets}}
 	address, count := first(octets)
-	if err := answered(C.der_ess_cert_idv2(address, count, &out, &fault), &fault); err != nil {
+	if err := answered(C.der_ess_cert_idv2(address, count, &read.it.at, &read.fault), &read.fault); err != nil {
 		return nil, err
 	}
-	return &ESSCertIDv2{octets, out}, nil
+	return &read.it, nil
 }
 
 // HashAlgorithm returns hashAlgorithm, an AlgorithmIdentifier; nil if absent.
@@ -915,13 +884,12 @@ type TimeStampReq struct {
 
 // ReadTimeStampReq reads all octets as a request for a time stamp. They must not change as long as the result is used.
 func ReadTimeStampReq(octets []byte) (*TimeStampReq, error) {
-	var out C.der_time_stamp_req_at
-	var fault C.der_fault
+	read := reading[TimeStampReq]{it: TimeStampReq{octets: octets}}
 	address, count := first(octets)
-	if err := answered(C.der_time_stamp_req(address, count, &out, &fault), &fault); err != nil {
+	if err := answered(C.der_time_stamp_req(address, count, &read.it.at, &read.fault), &read.fault); err != nil {
 		return nil, err
 	}
-	return &TimeStampReq{octets, out}, nil
+	return &read.it, nil
 }
 
 // Version returns version, an INTEGER.
@@ -951,13 +919,12 @@ type MessageImprint struct {
 // ReadMessageImprint reads all octets as a hash value of what is stamped. They must not change as long as the result is
 // used.
 func ReadMessageImprint(octets []byte) (*MessageImprint, error) {
-	var out C.der_message_imprint_at
-	var fault C.der_fault
+	read := reading[MessageImprint]{it: MessageImprint{octets: octets}}
 	address, count := first(octets)
-	if err := answered(C.der_message_imprint(address, count, &out, &fault), &fault); err != nil {
+	if err := answered(C.der_message_imprint(address, count, &read.it.at, &read.fault), &read.fault); err != nil {
 		return nil, err
 	}
-	return &MessageImprint{octets, out}, nil
+	return &read.it, nil
 }
 
 // HashAlgorithm returns hashAlgorithm, an AlgorithmIdentifier.
@@ -975,13 +942,12 @@ type TimeStampResp struct {
 // ReadTimeStampResp reads all octets as a response with a time stamp. They must not change as long as the result is
 // used.
 func ReadTimeStampResp(octets []byte) (*TimeStampResp, error) {
-	var out C.der_time_stamp_resp_at
-	var fault C.der_fault
+	read := reading[TimeStampResp]{it: TimeStampResp{octets: octets}}
 	address, count := first(octets)
-	if err := answered(C.der_time_stamp_resp(address, count, &out, &fault), &fault); err != nil {
+	if err := answered(C.der_time_stamp_resp(address, count, &read.it.at, &read.fault), &read.fault); err != nil {
 		return nil, err
 	}
-	return &TimeStampResp{octets, out}, nil
+	return &read.it, nil
 }
 
 // Status returns status, a PKIStatusInfo.
@@ -998,13 +964,12 @@ type PKIStatusInfo struct {
 
 // ReadPKIStatusInfo reads all octets as a status of a response. They must not change as long as the result is used.
 func ReadPKIStatusInfo(octets []byte) (*PKIStatusInfo, error) {
-	var out C.der_pki_status_info_at
-	var fault C.der_fault
+	read := reading[PKIStatusInfo]{it: PKIStatusInfo{octets: octets}}
 	address, count := first(octets)
-	if err := answered(C.der_pki_status_info(address, count, &out, &fault), &fault); err != nil {
+	if err := answered(C.der_pki_status_info(address, count, &read.it.at, &read.fault), &read.fault); err != nil {
 		return nil, err
 	}
-	return &PKIStatusInfo{octets, out}, nil
+	return &read.it, nil
 }
 
 // Status returns status, an INTEGER.
@@ -1024,13 +989,12 @@ type TSTInfo struct {
 
 // ReadTSTInfo reads all octets as a time stamp. They must not change as long as the result is used.
 func ReadTSTInfo(octets []byte) (*TSTInfo, error) {
-	var out C.der_tst_info_at
-	var fault C.der_fault
+	read := reading[TSTInfo]{it: TSTInfo{octets: octets}}
 	address, count := first(octets)
-	if err := answered(C.der_tst_info(address, count, &out, &fault), &fault); err != nil {
+	if err := answered(C.der_tst_info(address, count, &read.it.at, &read.fault), &read.fault); err != nil {
 		return nil, err
 	}
-	return &TSTInfo{octets, out}, nil
+	return &read.it, nil
 }
 
 // Version returns version, an INTEGER.
@@ -1071,13 +1035,12 @@ type Accuracy struct {
 
 // ReadAccuracy reads all octets as an accuracy of a time. They must not change as long as the result is used.
 func ReadAccuracy(octets []byte) (*Accuracy, error) {
-	var out C.der_accuracy_at
-	var fault C.der_fault
+	read := reading[Accuracy]{it: Accuracy{octets: octets}}
 	address, count := first(octets)
-	if err := answered(C.der_accuracy(address, count, &out, &fault), &fault); err != nil {
+	if err := answered(C.der_accuracy(address, count, &read.it.at, &read.fault), &read.fault); err != nil {
 		return nil, err
 	}
-	return &Accuracy{octets, out}, nil
+	return &read.it, nil
 }
 
 // Seconds returns seconds, an INTEGER; nil if absent.
@@ -1097,13 +1060,12 @@ type PFX struct {
 
 // ReadPFX reads all octets as a PKCS 12 file. They must not change as long as the result is used.
 func ReadPFX(octets []byte) (*PFX, error) {
-	var out C.der_pfx_at
-	var fault C.der_fault
+	read := reading[PFX]{it: PFX{octets: octets}}
 	address, count := first(octets)
-	if err := answered(C.der_pfx(address, count, &out, &fault), &fault); err != nil {
+	if err := answered(C.der_pfx(address, count, &read.it.at, &read.fault), &read.fault); err != nil {
 		return nil, err
 	}
-	return &PFX{octets, out}, nil
+	return &read.it, nil
 }
 
 // Version returns version, an INTEGER.
@@ -1123,13 +1085,12 @@ type MacData struct {
 
 // ReadMacData reads all octets as a MAC of a PKCS 12 file. They must not change as long as the result is used.
 func ReadMacData(octets []byte) (*MacData, error) {
-	var out C.der_mac_data_at
-	var fault C.der_fault
+	read := reading[MacData]{it: MacData{octets: octets}}
 	address, count := first(octets)
-	if err := answered(C.der_mac_data(address, count, &out, &fault), &fault); err != nil {
+	if err := answered(C.der_mac_data(address, count, &read.it.at, &read.fault), &read.fault); err != nil {
 		return nil, err
 	}
-	return &MacData{octets, out}, nil
+	return &read.it, nil
 }
 
 // Mac returns mac, a DigestInfo.
@@ -1150,13 +1111,12 @@ type DigestInfo struct {
 // ReadDigestInfo reads all octets as a hash value with its algorithm. They must not change as long as the result is
 // used.
 func ReadDigestInfo(octets []byte) (*DigestInfo, error) {
-	var out C.der_digest_info_at
-	var fault C.der_fault
+	read := reading[DigestInfo]{it: DigestInfo{octets: octets}}
 	address, count := first(octets)
-	if err := answered(C.der_digest_info(address, count, &out, &fault), &fault); err != nil {
+	if err := answered(C.der_digest_info(address, count, &read.it.at, &read.fault), &read.fault); err != nil {
 		return nil, err
 	}
-	return &DigestInfo{octets, out}, nil
+	return &read.it, nil
 }
 
 // DigestAlgorithm returns digestAlgorithm, an AlgorithmIdentifier.
@@ -1173,13 +1133,12 @@ type SafeBag struct {
 
 // ReadSafeBag reads all octets as a bag of a PKCS 12 file. They must not change as long as the result is used.
 func ReadSafeBag(octets []byte) (*SafeBag, error) {
-	var out C.der_safe_bag_at
-	var fault C.der_fault
+	read := reading[SafeBag]{it: SafeBag{octets: octets}}
 	address, count := first(octets)
-	if err := answered(C.der_safe_bag(address, count, &out, &fault), &fault); err != nil {
+	if err := answered(C.der_safe_bag(address, count, &read.it.at, &read.fault), &read.fault); err != nil {
 		return nil, err
 	}
-	return &SafeBag{octets, out}, nil
+	return &read.it, nil
 }
 
 // BagId returns bagId, an OBJECT IDENTIFIER.
@@ -1199,13 +1158,12 @@ type CertBag struct {
 
 // ReadCertBag reads all octets as a certificate in a bag. They must not change as long as the result is used.
 func ReadCertBag(octets []byte) (*CertBag, error) {
-	var out C.der_cert_bag_at
-	var fault C.der_fault
+	read := reading[CertBag]{it: CertBag{octets: octets}}
 	address, count := first(octets)
-	if err := answered(C.der_cert_bag(address, count, &out, &fault), &fault); err != nil {
+	if err := answered(C.der_cert_bag(address, count, &read.it.at, &read.fault), &read.fault); err != nil {
 		return nil, err
 	}
-	return &CertBag{octets, out}, nil
+	return &read.it, nil
 }
 
 // CertId returns certId, an OBJECT IDENTIFIER.

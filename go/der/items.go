@@ -1,11 +1,15 @@
 package der
 
+// #include <barleypulley/der.h>
+import "C"
+
 // Items goes over what stands one behind another: Next reads one, and Item gives it.
 type Items[T any] struct {
-	left []byte
-	read func([]byte) (T, int, error)
-	now  T
-	err  error
+	left  []byte
+	read  func(octets []byte, to *T, fault *C.der_fault) (int, error)
+	now   T
+	fault C.der_fault
+	err   error
 }
 
 // Next reads the next one; false where none is left, or where Err says why it is refused.
@@ -13,12 +17,12 @@ func (x *Items[T]) Next() bool {
 	if len(x.left) == 0 || x.err != nil {
 		return false
 	}
-	item, count, err := x.read(x.left)
+	count, err := x.read(x.left, &x.now, &x.fault)
 	if err != nil {
 		x.err = err
 		return false
 	}
-	x.now, x.left = item, x.left[count:]
+	x.left = x.left[count:]
 	return true
 }
 

@@ -17,13 +17,12 @@ type SubjectPublicKeyInfo struct {
 // ReadSubjectPublicKeyInfo reads octets as a SubjectPublicKeyInfo, all of them. They must not change as long as the answer is
 // used.
 func ReadSubjectPublicKeyInfo(octets []byte) (*SubjectPublicKeyInfo, error) {
-	var out C.der_subject_public_key_info_at
-	var fault C.der_fault
+	read := reading[SubjectPublicKeyInfo]{it: SubjectPublicKeyInfo{octets: octets}}
 	address, count := first(octets)
-	if err := answered(C.der_subject_public_key_info(address, count, &out, &fault), &fault); err != nil {
+	if err := answered(C.der_subject_public_key_info(address, count, &read.it.at, &read.fault), &read.fault); err != nil {
 		return nil, err
 	}
-	return &SubjectPublicKeyInfo{octets, out}, nil
+	return &read.it, nil
 }
 
 // written by tools/bindings: fields of SubjectPublicKeyInfo
@@ -47,13 +46,12 @@ type PrivateKeyInfo struct {
 // ReadPrivateKeyInfo reads octets as a PrivateKeyInfo, all of them; the key itself is not read. They must not change as long
 // as the answer is used.
 func ReadPrivateKeyInfo(octets []byte) (*PrivateKeyInfo, error) {
-	var out C.der_private_key_info_at
-	var fault C.der_fault
+	read := reading[PrivateKeyInfo]{it: PrivateKeyInfo{octets: octets}}
 	address, count := first(octets)
-	if err := answered(C.der_private_key_info(address, count, &out, &fault), &fault); err != nil {
+	if err := answered(C.der_private_key_info(address, count, &read.it.at, &read.fault), &read.fault); err != nil {
 		return nil, err
 	}
-	return &PrivateKeyInfo{octets, out}, nil
+	return &read.it, nil
 }
 
 // written by tools/bindings: fields of PrivateKeyInfo

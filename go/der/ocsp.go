@@ -13,13 +13,12 @@ type OCSPResponse struct {
 
 // ReadOCSPResponse reads octets as an OCSPResponse, all of them. They must not change as long as the answer is used.
 func ReadOCSPResponse(octets []byte) (*OCSPResponse, error) {
-	var out C.der_ocsp_response_at
-	var fault C.der_fault
+	read := reading[OCSPResponse]{it: OCSPResponse{octets: octets}}
 	address, count := first(octets)
-	if err := answered(C.der_ocsp_response(address, count, &out, &fault), &fault); err != nil {
+	if err := answered(C.der_ocsp_response(address, count, &read.it.at, &read.fault), &read.fault); err != nil {
 		return nil, err
 	}
-	return &OCSPResponse{octets, out}, nil
+	return &read.it, nil
 }
 
 // ResponseStatus gives responseStatus: 0 for successful, 1 to 3, 5 or 6.
@@ -44,13 +43,12 @@ type BasicOCSPResponse struct {
 
 // ReadBasicOCSPResponse reads octets as a BasicOCSPResponse, all of them. They must not change as long as the answer is used.
 func ReadBasicOCSPResponse(octets []byte) (*BasicOCSPResponse, error) {
-	var out C.der_basic_ocsp_response_at
-	var fault C.der_fault
+	read := reading[BasicOCSPResponse]{it: BasicOCSPResponse{octets: octets}}
 	address, count := first(octets)
-	if err := answered(C.der_basic_ocsp_response(address, count, &out, &fault), &fault); err != nil {
+	if err := answered(C.der_basic_ocsp_response(address, count, &read.it.at, &read.fault), &read.fault); err != nil {
 		return nil, err
 	}
-	return &BasicOCSPResponse{octets, out}, nil
+	return &read.it, nil
 }
 
 // written by tools/bindings: fields of BasicOCSPResponse
@@ -105,14 +103,13 @@ type SingleResponse struct {
 }
 
 // readSingleResponse reads the answer at the front of octets, and says how many it has.
-func readSingleResponse(octets []byte) (SingleResponse, int, error) {
-	var out C.der_single_response_at
-	var fault C.der_fault
+func readSingleResponse(octets []byte, to *SingleResponse, fault *C.der_fault) (int, error) {
 	address, count := first(octets)
-	if err := answered(C.der_single_response(address, count, &out, &fault), &fault); err != nil {
-		return SingleResponse{}, 0, err
+	if err := answered(C.der_single_response(address, count, &to.at, fault), fault); err != nil {
+		return 0, err
 	}
-	return SingleResponse{at(octets, out.whole), out}, int(out.whole.length), nil
+	to.octets = at(octets, to.at.whole)
+	return len(to.octets), nil
 }
 
 // Octets gives the whole answer.

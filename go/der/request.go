@@ -12,13 +12,12 @@ type CertificationRequest struct {
 // ReadCertificationRequest reads octets as a CertificationRequest, all of them. They must not change as long as the answer is
 // used.
 func ReadCertificationRequest(octets []byte) (*CertificationRequest, error) {
-	var out C.der_certification_request_at
-	var fault C.der_fault
+	read := reading[CertificationRequest]{it: CertificationRequest{octets: octets}}
 	address, count := first(octets)
-	if err := answered(C.der_certification_request(address, count, &out, &fault), &fault); err != nil {
+	if err := answered(C.der_certification_request(address, count, &read.it.at, &read.fault), &read.fault); err != nil {
 		return nil, err
 	}
-	return &CertificationRequest{octets, out}, nil
+	return &read.it, nil
 }
 
 // written by tools/bindings: fields of CertificationRequest

@@ -76,13 +76,11 @@ func GeneralName(encoding []byte) (NameKind, []byte, error) {
 func Encodings(list []byte) [][]byte {
 	var found [][]byte
 	for left := Contents(list); ; {
-		var none C.der_place
-		address, count := first(left)
-		place := C.der_next_encoding(address, count, &none)
-		if place.offset != 0 || place.length == 0 {
+		one := firstEncoding(left)
+		if len(one) == 0 {
 			return found
 		}
-		found = append(found, at(left, place))
-		left = left[place.length:]
+		found = append(found, one)
+		left = left[len(one):]
 	}
 }

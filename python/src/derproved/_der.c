@@ -26,19 +26,6 @@ static PyObject *signed_octets(PyObject *module, PyObject *octets)
     return found_in(octets, der_signed_octets);
 }
 
-/* The octets of the encoding at the front. */
-static der_place first_of_all(const uint8_t *octets, size_t len)
-{
-    der_place none = {0, 0}, first = der_next_encoding(octets, len, &none);
-    return first.offset == 0 ? first : none;
-}
-
-static PyObject *first_encoding(PyObject *module, PyObject *octets)
-{
-    (void)module;
-    return found_in(octets, first_of_all);
-}
-
 /* A call that reads octets and writes a number. */
 #define NUMBER(name, type)                                                \
     static PyObject *name(PyObject *module, PyObject *argument)           \
@@ -60,7 +47,24 @@ NUMBER(check_rfc5280_list, uint64_t)
 NUMBER(unsigned_integer, uint64_t)
 NUMBER(fractional_time, uint64_t)
 NUMBER(named_bits, uint32_t)
-NUMBER(general_name, uint32_t)
+
+/* The kind of a GeneralName, and the contents octets. */
+static PyObject *general_name(PyObject *module, PyObject *argument)
+{
+    Py_buffer view;
+    der_fault fault;
+    uint32_t number = 0, answer;
+    PyObject *value;
+    (void)module;
+    if (PyObject_GetBuffer(argument, &view, PyBUF_SIMPLE) != 0)
+        return NULL;
+    answer = der_general_name(view.buf, (size_t)view.len, &number, &fault);
+    PyBuffer_Release(&view);
+    if (answer != 0)
+        return refuse(&fault);
+    value = found_in(argument, contents_of_all);
+    return value == NULL ? NULL : Py_BuildValue("(kN)", (unsigned long)number, value);
+}
 
 /* (`time` is a function of the C library) */
 #define der_seconds der_time
@@ -112,8 +116,8 @@ static PyMethodDef methods[] = {
     {"seconds", seconds, METH_O, "The seconds of a Time."},
     {"fractional_time", fractional_time, METH_O, "The seconds of a GeneralizedTime that may have a fraction."},
     {"named_bits", named_bits, METH_O, "The bits 0 to 15 of a BIT STRING with named bits."},
-    {"general_name", general_name, METH_O, "The number of the tag of a GeneralName."},
-    {"first_encoding", first_encoding, METH_O, "The encoding at the front."},
+    {"general_name", general_name, METH_O, "The number of the tag of a GeneralName, and its contents octets."},
+    {"encodings", encodings, METH_O, "The encodings in the contents octets."},
     {"canonical", canonical, METH_VARARGS, "The canonical encoding by the name of a type."},
     {"contents", contents, METH_O, "The contents octets."},
     {"signed_octets", signed_octets, METH_O, "What a signature covers."},

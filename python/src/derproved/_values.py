@@ -60,15 +60,16 @@ class NameKind(IntEnum):
     REGISTERED_ID = 8
 
 
+KINDS = tuple(NameKind)
+
+
 def general_name(encoding: Octets) -> tuple[NameKind, memoryview]:
     """The kind of a GeneralName, and the contents octets of its value; of a directory name the encoding of a Name."""
-    return NameKind(_der.general_name(encoding)), _der.contents(encoding)
+    kind, value = _der.general_name(encoding)
+    return KINDS[kind], value
 
 
 def encodings(list_: Octets) -> Iterator[memoryview]:
     """The encodings, one after another, in the contents octets of a list, such as the names of a subjectAltName. If the
     octets are no list, it ends early."""
-    left = _der.contents(list_)
-    while first := _der.first_encoding(left):
-        yield first
-        left = left[len(first) :]
+    return _der.encodings(list_)

@@ -143,11 +143,13 @@ int add_messages(PyObject *module);
 
 /* items.c */
 
-/* What stands one behind another in a plain memoryview, of a kind and a class of that; or, of a name, in the parts of it. */
+/* What stands one behind another in a plain memoryview, of a kind and a class of that; or, of a name, in the parts of it.
+ * With no kind, encodings. */
 PyObject *make_items(const kind *of, PyObject *class, PyObject *view, der_place left, der_place parts);
 
 PyObject *items_of(PyObject *module, PyObject *arguments);
 PyObject *name_attributes(PyObject *module, PyObject *arguments);
+PyObject *encodings(PyObject *module, PyObject *octets);
 
 int add_items(PyObject *module);
 

@@ -6,7 +6,7 @@ static PyTypeObject *Items;
 typedef struct items {
     PyObject_HEAD
     const kind *kind;
-    PyObject *class, *view; /* that of each item, and a plain memoryview */
+    PyObject *class, *view; /* that of each item, and a plain memoryview; of encodings there is no kind and no class */
     der_place left;         /* what was not read yet */
     der_place parts;        /* of a name: what was not entered yet */
 } items;
@@ -17,7 +17,7 @@ PyObject *make_items(const kind *of, PyObject *class, PyObject *view, der_place 
     if (made == NULL)
         return NULL;
     made->kind = of;
-    made->class = Py_NewRef(class);
+    made->class = Py_XNewRef(class);
     made->view = Py_NewRef(view);
     made->left = left;
     made->parts = parts;
@@ -33,6 +33,25 @@ static void enter_part(const uint8_t *octets, der_place *left, der_place *parts)
     take(parts, part.length);
 }
 
+/* The next encoding; after octets that are none nothing is left. */
+static PyObject *next_encoding(items *of)
+{
+    der_place nothing = {0, 0}, first = nothing;
+    Py_buffer seen;
+    if (PyObject_GetBuffer(of->view, &seen, PyBUF_SIMPLE) != 0)
+        return NULL;
+    if (of->left.length > 0)
+        first = der_next_encoding((const uint8_t *)seen.buf + of->left.offset, of->left.length, &nothing);
+    PyBuffer_Release(&seen);
+    if (first.offset != 0 || first.length == 0) {
+        of->left = nothing;
+        return NULL;
+    }
+    first = moved(of->left.offset, first);
+    take(&of->left, first.length);
+    return PySequence_GetSlice(of->view, first.offset, (Py_ssize_t)first.offset + first.length);
+}
+
 /* The next item; after one that is refused nothing is left. */
 static PyObject *next_item(PyObject *self)
 {
@@ -40,6 +59,8 @@ static PyObject *next_item(PyObject *self)
     der_place left = of->left, parts = of->parts, nothing = {0, 0};
     Py_buffer seen;
     PyObject *item;
+    if (of->kind == NULL)
+        return next_encoding(of);
     if ((left.length == 0 && parts.length == 0) || PyObject_GetBuffer(of->view, &seen, PyBUF_SIMPLE) != 0)
         return NULL;
     if (left.length == 0)
@@ -111,6 +132,18 @@ PyObject *name_attributes(PyObject *module, PyObject *arguments)
 {
     (void)module;
     return items_in(arguments, true);
+}
+
+PyObject *encodings(PyObject *module, PyObject *octets)
+{
+    der_place left, nothing = {0, 0};
+    PyObject *view = search(octets, contents_of_all, &left), *made;
+    (void)module;
+    if (view == NULL)
+        return NULL;
+    made = make_items(NULL, NULL, view, left, nothing);
+    Py_DECREF(view);
+    return made;
 }
 
 int add_items(PyObject *module)

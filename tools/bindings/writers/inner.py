@@ -46,13 +46,12 @@ def in_go(found: list[Struct]) -> list[str]:
 
 def reading_in_go(struct: Struct, name: str) -> list[str]:
     return [
-        f"\tvar out C.{struct_in_c(struct)}",
-        "\tvar fault C.der_fault",
+        f"\tread := reading[{name}]{{it: {name}{{octets: octets}}}}",
         "\taddress, count := first(octets)",
-        f"\tif err := answered(C.der_{struct.name}(address, count, &out, &fault), &fault); err != nil {{",
+        f"\tif err := answered(C.der_{struct.name}(address, count, &read.it.at, &read.fault), &read.fault); err != nil {{",
         "\t\treturn nil, err",
         "\t}",
-        f"\treturn &{name}{{octets, out}}, nil",
+        "\treturn &read.it, nil",
     ]
 
 
