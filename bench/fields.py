@@ -72,7 +72,7 @@ def extensions_cryptography(octets):
 
 
 def name_here(name):
-    return [(bytes(one.identifier), bytes(one.value)) for one in derproved.name_attributes(name)]
+    return [(one.identifier, bytes(one.value)) for one in derproved.name_attributes(name)]
 
 
 def key_here(info):
@@ -101,7 +101,7 @@ VALUES = {
 def peer_here(octets):
     """What a client of TLS reads: names, alternative names, usage, constraints and key."""
     one = derproved.Certificate(octets)
-    values = [VALUES.get(bytes(it.identifier), len)(it.value) for it in one.extensions]
+    values = [VALUES.get(it.identifier, len)(it.value) for it in one.extensions]
     return name_here(one.issuer), name_here(one.subject), values, key_here(one.subject_public_key_info)
 
 

@@ -19,7 +19,7 @@ func peer(octets []byte) (int, error) {
 	if err != nil {
 		return 0, err
 	}
-	sum := len(Contents(certificate.SerialNumber())) + certificate.NotBefore().Year() + certificate.NotAfter().Year()
+	sum := len(Contents(certificate.SerialNumber())) + int(certificate.NotBefore().Unix()+certificate.NotAfter().Unix())
 	for _, name := range [][]byte{certificate.Issuer(), certificate.Subject()} {
 		attributes, err := NameAttributes(name)
 		if err != nil {

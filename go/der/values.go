@@ -7,40 +7,36 @@ import "time"
 
 // UnsignedInteger reads all octets as an INTEGER from 0 to 18446744073709551615.
 func UnsignedInteger(encoding []byte) (uint64, error) {
-	var out C.uint64_t
-	var fault C.der_fault
+	var read reading[C.uint64_t]
 	address, count := first(encoding)
-	err := answered(C.der_unsigned_integer(address, count, &out, &fault), &fault)
-	return uint64(out), err
+	err := answered(C.der_unsigned_integer(address, count, &read.it, &read.fault), &read.fault)
+	return uint64(read.it), err
 }
 
 // Time reads all octets as a time (Time, RFC 5280 4.1.2.5): a UTCTime, or a GeneralizedTime without a fraction of a second.
 func Time(encoding []byte) (time.Time, error) {
-	var out C.uint64_t
-	var fault C.der_fault
+	var read reading[C.uint64_t]
 	address, count := first(encoding)
-	err := answered(C.der_time(address, count, &out, &fault), &fault)
-	return seconds(out), err
+	err := answered(C.der_time(address, count, &read.it, &read.fault), &read.fault)
+	return seconds(read.it), err
 }
 
 // FractionalTime reads all octets as a GeneralizedTime that may have a fraction of a second, and returns the time without
 // the fraction.
 func FractionalTime(encoding []byte) (time.Time, error) {
-	var out C.uint64_t
-	var fault C.der_fault
+	var read reading[C.uint64_t]
 	address, count := first(encoding)
-	err := answered(C.der_fractional_time(address, count, &out, &fault), &fault)
-	return seconds(out), err
+	err := answered(C.der_fractional_time(address, count, &read.it, &read.fault), &read.fault)
+	return seconds(read.it), err
 }
 
 // NamedBits reads all octets as a BIT STRING with named bits, such as a KeyUsage, and returns the bits 0 to 15: bit 0 as 1,
 // bit 1 as 2, bit 2 as 4, and so on.
 func NamedBits(encoding []byte) (uint16, error) {
-	var out C.uint32_t
-	var fault C.der_fault
+	var read reading[C.uint32_t]
 	address, count := first(encoding)
-	err := answered(C.der_named_bits(address, count, &out, &fault), &fault)
-	return uint16(out), err
+	err := answered(C.der_named_bits(address, count, &read.it, &read.fault), &read.fault)
+	return uint16(read.it), err
 }
 
 // NameKind is the kind of a GeneralName (RFC 5280 4.2.1.6).
@@ -62,13 +58,12 @@ const (
 // GeneralName reads all octets as a GeneralName (RFC 5280 4.2.1.6). It returns the kind, and the contents octets of the
 // value; of a directory name the encoding of a Name.
 func GeneralName(encoding []byte) (NameKind, []byte, error) {
-	var out C.uint32_t
-	var fault C.der_fault
+	var read reading[C.uint32_t]
 	address, count := first(encoding)
-	if err := answered(C.der_general_name(address, count, &out, &fault), &fault); err != nil {
+	if err := answered(C.der_general_name(address, count, &read.it, &read.fault), &read.fault); err != nil {
 		return 0, nil, err
 	}
-	return NameKind(out), Contents(encoding), nil
+	return NameKind(read.it), Contents(encoding), nil
 }
 
 // Encodings returns the encodings in the contents octets of a list, such as the names of a subjectAltName. If the octets are

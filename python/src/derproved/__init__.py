@@ -3,7 +3,7 @@ proved: which octets are taken, where each field stands, which rules of RFC 5280
 the name of a type.
 
 A value keeps the octets that it was read from, and a field is a memoryview of them: its whole encoding. Nothing is
-copied but by canonical, and no signature is verified. The code that reads is Barleypulley's der_c; this package, which calls it, is not
+copied but identifiers and by canonical, and no signature is verified. The code that reads is Barleypulley's der_c; this package, which calls it, is not
 proved.
 
 A value is there once it was read, and does not change. What stands one behind another, as extensions, is an iterator, and
@@ -14,7 +14,7 @@ one of these has a __new__ of its own where it takes more than the octets.
     >>> certificate = derproved.Certificate(octets)
     >>> certificate.not_after
     datetime.datetime(2036, 11, 20, 4, 38, 17, tzinfo=datetime.timezone.utc)
-    >>> [bytes(extension.identifier) for extension in certificate.extensions if extension.is_critical]
+    >>> [extension.identifier for extension in certificate.extensions if extension.is_critical]
     [b'U\\x1d\\x13']
 
 Two messages are equal if they are of one class and have equal octets. A message has a hash if nobody can write its octets.
@@ -104,7 +104,7 @@ class Extension(_der.Extension):
     extn_id = _der.field(1, "`extnID`, an OBJECT IDENTIFIER.")
     extn_value = _der.field(3, "`extnValue`, an OCTET STRING.")
     # end of fields of Extension
-    identifier = _der.contents_field(_places.Extension.extn_id, "The contents octets of `extnID`: 55 1D 0F of keyUsage.")
+    identifier = _der.identifier_field(_places.Extension.extn_id, "The contents octets of `extnID`: 55 1D 0F of keyUsage.")
     value = _der.contents_field(
         _places.Extension.extn_value, "The contents octets of `extnValue`: the encoding of what the extension says."
     )
@@ -216,7 +216,7 @@ class AttributeTypeAndValue(_der.AttributeTypeAndValue):
     type = _der.field(1, "`type`, an OBJECT IDENTIFIER.")
     value = _der.field(2, "`value`, of any type.")
     # end of fields of AttributeTypeAndValue
-    identifier = _der.contents_field(
+    identifier = _der.identifier_field(
         _places.AttributeTypeAndValue.type, "The contents octets of `type`: 55 04 03 of commonName."
     )
 
@@ -232,7 +232,7 @@ def name_attributes(name: Octets) -> Iterator[AttributeTypeAndValue]:
 
 def _attribute_text(attribute: AttributeTypeAndValue) -> str:
     value = _text.value_text(attribute.value[0], bytes(contents(attribute.value)))
-    return f"{_text.type_text(bytes(attribute.identifier))}={value}"
+    return f"{_text.type_text(attribute.identifier)}={value}"
 
 
 def _name_text(name: Octets) -> str:
@@ -249,7 +249,7 @@ class Attribute(_der.Attribute):
     type = _der.field(1, "`type`, an OBJECT IDENTIFIER.")
     values = _der.field(2, "`values`, a SET OF.")
     # end of fields of Attribute
-    identifier = _der.contents_field(
+    identifier = _der.identifier_field(
         _places.Attribute.type, "The contents octets of `type`: 2A 86 48 86 F7 0D 01 09 04 of messageDigest."
     )
 

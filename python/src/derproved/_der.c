@@ -101,6 +101,7 @@ static PyMethodDef methods[] = {
     {"field", place_field, METH_VARARGS, "A field that is always there: index of its place, documentation."},
     {"optional", optional_field, METH_VARARGS, "The same of one that may be absent, and is then None."},
     {"contents_field", contents_field, METH_VARARGS, "The contents octets of a field: index of its place, documentation."},
+    {"identifier_field", identifier_field, METH_VARARGS, "The same as bytes."},
     {"number", number_field, METH_VARARGS, "A number: its index, documentation, what is added to it."},
     {"flag", flag_field, METH_VARARGS, "Whether a number is 1: its index, documentation."},
     {"moment", moment_field, METH_VARARGS, "A datetime: index of its number, documentation."},

@@ -158,6 +158,7 @@ int add_items(PyObject *module);
 PyObject *place_field(PyObject *module, PyObject *arguments);
 PyObject *optional_field(PyObject *module, PyObject *arguments);
 PyObject *contents_field(PyObject *module, PyObject *arguments);
+PyObject *identifier_field(PyObject *module, PyObject *arguments);
 PyObject *number_field(PyObject *module, PyObject *arguments);
 PyObject *flag_field(PyObject *module, PyObject *arguments);
 PyObject *moment_field(PyObject *module, PyObject *arguments);

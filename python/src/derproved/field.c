@@ -68,6 +68,22 @@ static PyObject *get_contents(const field *self, message *of)
     return go_into(of, 1, &place) != 0 ? NULL : slice(of, place);
 }
 
+/* The contents octets as bytes: an identifier is short, and is compared or looked up. */
+static PyObject *get_identifier(const field *self, message *of)
+{
+    der_place place = place_of(self, of);
+    Py_buffer seen;
+    const char *first;
+    PyObject *found;
+    if (PyObject_GetBuffer(of->octets, &seen, PyBUF_SIMPLE) != 0)
+        return NULL;
+    first = (const char *)seen.buf + of->start + place.offset;
+    place = contents_of_all((const uint8_t *)first, place.length);
+    found = PyBytes_FromStringAndSize(first + place.offset, place.length);
+    PyBuffer_Release(&seen);
+    return found;
+}
+
 static PyObject *get_number(const field *self, message *of)
 {
     return PyLong_FromUnsignedLongLong(number_of(self, of) + self->more);
@@ -138,6 +154,7 @@ static PyObject *make_field(get_call *get, const char *format, bool is_number, P
 MAKES(place_field, get_place, "bU", false)
 MAKES(optional_field, get_optional, "bU", false)
 MAKES(contents_field, get_contents, "bU", false)
+MAKES(identifier_field, get_identifier, "bU", false)
 MAKES(number_field, get_number, "bU|b", true)
 MAKES(flag_field, get_flag, "bU", true)
 MAKES(moment_field, get_moment, "bU", true)
