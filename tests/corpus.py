@@ -7,7 +7,7 @@ The packages are those of tests/lib/corpus/packages.py, of Debian's release that
 ~/.cache/der-corpus, and nothing is installed. A message is a PEM block, a file that is one SEQUENCE, or a message of S/MIME;
 each is taken once. derproved is imported from the folder, as `setup.py build --build-lib` writes it, else as it is installed.
 A difference needs a reason of tests/lib/corpus/reasons.py. The last line counts what was compared; the status is 1 if a
-difference has no reason."""
+difference has no reason. It needs python3-asn1crypto and python3-cryptography."""
 
 import argparse
 import collections
@@ -15,6 +15,8 @@ import os
 import sys
 import warnings
 
+# What is counted besides keys, also where it stands in another message: certificates, lists, OCSP, requests, CMS, PKCS #12.
+COUNTED = {"Certificate", "CertificateList", "OcspRequest", "OcspResponse", "CertificationRequest", "ContentInfo", "Pfx"}
 DEBIAN = "/usr/lib/python3/dist-packages"  # of python3-asn1crypto, for another python3
 
 
@@ -22,7 +24,7 @@ def words_of_run():
     words = argparse.ArgumentParser()
     words.add_argument("--room", default=os.path.expanduser("~/.cache/der-corpus"))
     words.add_argument("--derproved", help="a folder that has the package")
-    words.add_argument("--least", type=int, default=5000, help="how many messages there must be")
+    words.add_argument("--least", type=int, default=5000, help="how many messages there must be that are no keys")
     words.add_argument("--show", type=int, default=3, help="how many differences without a reason are shown of each sort")
     return words.parse_args()
 
@@ -74,7 +76,7 @@ def main():
         import asn1crypto
         import cryptography
         import derproved
-        from lib.corpus import gathered, packages
+        from lib.corpus import beside_asn1crypto, gathered, packages
         from lib.corpus.differences import Tally
     except ImportError as error:
         print(f"corpus: {error}: nothing was compared")
@@ -91,9 +93,10 @@ def main():
         print(f"corpus: {kind} beside {peer}: {count} {answer}")
     told = ", ".join(f"{count} {kind}" for kind, count in kinds.most_common())
     wrong = sum(map(len, unexplained.values()))
-    print(f"corpus: {sum(kinds.values())} messages ({told}); {sum(tally.members.values())} members compared; "
-          f"{len(tally.differences)} differences, {wrong} without a reason")
-    return 1 if wrong or sum(kinds.values()) < words.least else 0
+    counted = sum(count for (kind, peer, _), count in tally.answers.items() if kind in COUNTED and peer == beside_asn1crypto.PEER)
+    print(f"corpus: {sum(kinds.values())} messages ({told}); with those within others {counted} that are no keys; "
+          f"{sum(tally.members.values())} members compared; {len(tally.differences)} differences, {wrong} without a reason")
+    return 1 if wrong or counted < words.least else 0
 
 
 if __name__ == "__main__":

@@ -1,6 +1,6 @@
 """What derproved says of octets, member by member, beside asn1crypto, and of all that stands in the members."""
 
-from datetime import datetime, timezone
+from datetime import datetime
 
 import derproved
 from asn1crypto import core, x509
@@ -304,6 +304,10 @@ def number_of(value):
     return int(value)
 
 
+def is_revoked(response):
+    return response["cert_status"].name == "revoked"
+
+
 def of_items(name, inner=None):
     """The octets of the items of a list in a member."""
     def find(value):
@@ -333,7 +337,7 @@ NUMBERS = {
         "this_update": lambda it: moment(it["this_update"]),
         "next_update": lambda it: moment(it["next_update"]),
         "cert_status": lambda it: derproved.CertStatus(("good", "revoked", "unknown").index(it["cert_status"].name)),
-        "revocation_time": lambda it: moment(it["cert_status"].chosen["revocation_time"]) if it["cert_status"].name == "revoked" else None,
+        "revocation_time": lambda it: moment(it["cert_status"].chosen["revocation_time"]) if is_revoked(it) else None,
     },
     "SignedData": {"version": lambda it: number_of(it["version"])},
     "SignerInfo": {"version": lambda it: number_of(it["version"])},

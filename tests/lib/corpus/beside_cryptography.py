@@ -24,6 +24,9 @@ REASONS = ("unspecified key_compromise ca_compromise affiliation_changed superse
 CODES = {"unspecified": 0, "key_compromise": 1, "ca_compromise": 2, "affiliation_changed": 3, "superseded": 4,
          "cessation_of_operation": 5, "certificate_hold": 6, "remove_from_crl": 8, "privilege_withdrawn": 9, "aa_compromise": 10}
 
+# the members of a private key of RSA, and their names there
+NUMBERS = [("private_exponent", "d"), ("prime1", "p"), ("prime2", "q"), ("exponent1", "dmp1"), ("exponent2", "dmq1"), ("coefficient", "iqmp")]
+
 
 def attempt(call):
     """What a call returns, and None; or None, and the words of its refusal."""
@@ -334,7 +337,10 @@ class Beside:
         read = self.read(kind, octets, serialization.load_der_public_key)
         if read and isinstance(read[1], rsa.RSAPublicKey):
             mine, numbers = derproved.RsaPublicKey(contents(read[0].subject_public_key)[1:]), read[1].public_numbers()
-            self.members("RsaPublicKey", octets, [("modulus", integer(mine.modulus), lambda: numbers.n), ("public_exponent", integer(mine.public_exponent), lambda: numbers.e)])
+            self.members("RsaPublicKey", octets, [
+                ("modulus", integer(mine.modulus), lambda: numbers.n),
+                ("public_exponent", integer(mine.public_exponent), lambda: numbers.e),
+            ])
         elif read and isinstance(read[1], ec.EllipticCurvePublicKey):
             point, numbers = bytes(contents(read[0].subject_public_key))[1:], read[1].public_numbers()
             size = (len(point) - 1) // (2 if point[0] == 4 else 1)
@@ -345,14 +351,14 @@ class Beside:
         if not read:
             return
         held = octets if kind != "PrivateKeyInfo" else bytes(contents(read[0].private_key))
-        numbers = read[1].private_numbers() if isinstance(read[1], (rsa.RSAPrivateKey, ec.EllipticCurvePrivateKey)) else None
         if isinstance(read[1], rsa.RSAPrivateKey):
-            mine = derproved.RsaPrivateKey(held)
-            fields = ("private_exponent", "d"), ("prime1", "p"), ("prime2", "q"), ("exponent1", "dmp1"), ("exponent2", "dmq1"), ("coefficient", "iqmp")
-            self.members("RsaPrivateKey", octets, [(name, integer(getattr(mine, name)), lambda other=other: getattr(numbers, other)) for name, other in fields])
-        elif numbers:
-            mine = derproved.EcPrivateKey(held)
-            self.members("EcPrivateKey", octets, [("private_key", int.from_bytes(contents(mine.private_key)), lambda: numbers.private_value)])
+            mine, numbers = derproved.RsaPrivateKey(held), read[1].private_numbers()
+            self.members("RsaPrivateKey", octets, [
+                (name, integer(getattr(mine, name)), lambda other=other: getattr(numbers, other)) for name, other in NUMBERS
+            ])
+        elif isinstance(read[1], ec.EllipticCurvePrivateKey):
+            here, there = derproved.EcPrivateKey(held), read[1].private_numbers().private_value
+            self.members("EcPrivateKey", octets, [("private_key", int.from_bytes(contents(here.private_key)), lambda: there)])
 
     privatekeyinfo = rsaprivatekey = ecprivatekey = private
 

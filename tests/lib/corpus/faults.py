@@ -101,16 +101,20 @@ def is_default(value, at):
     return isinstance(value.children[at], tuple) and "default" in params and value[name].native == spec(params["default"]).native
 
 
+def held_in(value):
+    """The values within one of asn1crypto."""
+    if isinstance(value, core.Choice):
+        return [value.chosen]
+    if isinstance(value, core.Sequence):
+        return [value[name] for name, *_ in value._fields]
+    return list(value) if isinstance(value, core.SequenceOf) else []
+
+
 def encoded_default(value):
     """The name of the first field, in a value of asn1crypto, that is encoded though it has its default; or None."""
-    if isinstance(value, core.Choice):
-        return encoded_default(value.chosen)
-    if not isinstance(value, (core.Sequence, core.SequenceOf)):
-        return None
-    value._parse_children()
     if isinstance(value, core.Sequence):
-        for at in range(len(value._fields)):
+        value._parse_children()
+        for at, (name, *_) in enumerate(value._fields):
             if is_default(value, at):
-                return value._fields[at][0]
-    held = range(len(value._fields)) if isinstance(value, core.Sequence) else range(len(value))
-    return next(filter(None, (encoded_default(value[value._fields[at][0] if isinstance(value, core.Sequence) else at]) for at in held)), None)
+                return name
+    return next(filter(None, map(encoded_default, held_in(value))), None)

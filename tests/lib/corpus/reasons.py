@@ -96,9 +96,11 @@ REFUSALS = [
      lambda kind, it: kind == "ContentInfo" and is_absent(kind, it, "content")),
     ("RFC 5652 5.2: the content is an OCTET STRING, which it need not be in RFC 2315 7",
      lambda kind, it: kind == "ContentInfo" and faults.first_fault(it) is None and faults.signs_another_type(it)),
-    ("RFC 8017 A.1.1: a public key has two numbers", lambda kind, it: kind == "RsaPublicKey" and len(items(core.SequenceOf.load(it, spec=core.Any))) > 2),
+    ("RFC 8017 A.1.1: a public key has two numbers",
+     lambda kind, it: kind == "RsaPublicKey" and len(items(core.SequenceOf.load(it, spec=core.Any))) > 2),
     ("RFC 8017 A.1.1: the numbers of a key are positive", lambda kind, it: kind == "RsaPublicKey" and min(numbers(it)) < 0),
-    ("der.h: der_unsigned_integer reads numbers of 64 bits that are not negative", lambda kind, it: kind == "INTEGER"),
+    ("der.h: der_unsigned_integer reads numbers of 64 bits that are not negative",
+     lambda kind, it: kind == "INTEGER" and not 0 <= core.Integer.load(it).native < 1 << 64),
     ("RFC 7468: the label is of another type", lambda kind, it: kind == "EcPrivateKey" and there_refused("PrivateKeyInfo", it) is None),
 ]
 
@@ -110,7 +112,8 @@ OTHERS = [
     ("asn1crypto", r"", OPEN),
     ("cryptography", r"UnsupportedAlgorithm|Could not deserialize key data|private key|Invalid EC key|Invalid key|not on (the )?curve",
      "RFC 5280 4.1.1.2: any algorithm and any octets of a key; cryptography reads those that it can use"),
-    ("cryptography", r"signature_alg|SubjectPublicKeyInfo::algorithm|TbsCertificate::spki", "RFC 5280 4.1.1.2: parameters are of any type; cryptography reads them at once"),
+    ("cryptography", r"signature_alg|SubjectPublicKeyInfo::algorithm|TbsCertificate::spki",
+     "RFC 5280 4.1.1.2: parameters are of any type; cryptography reads them at once"),
     ("cryptography", r"AttributeValue|\[\"(issuer|subject)\"\]|Long-form tags|duplicate attributes",
      "RFC 5280 4.1.2.4: the value of an attribute is of any type, and a part has any attributes"),
     ("cryptography", r"PKCS7", "RFC 5652 3: any type of content; cryptography reads the certificates of signed messages"),
