@@ -1071,7 +1071,7 @@ func ReadPFX(octets []byte) (*PFX, error) {
 // Version returns version, an INTEGER.
 func (p *PFX) Version() []byte { return at(p.octets, p.at.version) }
 
-// AuthSafe returns authSafe, a ContentInfo.
+// AuthSafe returns authSafe, a ContentInfo of RFC 2315 section 7, whose content may be absent.
 func (p *PFX) AuthSafe() []byte { return at(p.octets, p.at.auth_safe) }
 
 // MacData returns macData, a MacData; nil if absent.

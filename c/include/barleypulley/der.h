@@ -706,7 +706,7 @@ typedef struct der_accuracy_at {
 /* Places in a PKCS 12 file (PFX, RFC 7292 section 4) */
 typedef struct der_pfx_at {
     der_place version;   /* an INTEGER */
-    der_place auth_safe; /* a ContentInfo */
+    der_place auth_safe; /* a ContentInfo of RFC 2315 section 7, whose content may be absent */
     der_place mac_data;  /* a MacData; may be absent */
 } der_pfx_at;
 

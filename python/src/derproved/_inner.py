@@ -464,7 +464,7 @@ class Pfx(_der.Pfx):
     __slots__ = ()
 
     version = _der.field(0, "`version`, an INTEGER.")
-    auth_safe = _der.field(1, "`authSafe`, a ContentInfo.")
+    auth_safe = _der.field(1, "`authSafe`, a ContentInfo of RFC 2315 section 7, whose content may be absent.")
     mac_data = _der.optional(2, "`macData`, a MacData.")
 
 

@@ -801,7 +801,7 @@ pub struct AccuracyAt {
 pub struct PfxAt {
     /// An INTEGER.
     pub version: Place,
-    /// A ContentInfo.
+    /// A ContentInfo of RFC 2315 section 7, whose content may be absent.
     pub auth_safe: Place,
     /// A MacData.
     pub mac_data: Place,

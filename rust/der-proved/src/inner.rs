@@ -734,7 +734,7 @@ impl<'a> Pfx<'a> {
     fields! {
         /// `version`, an INTEGER.
         version
-        /// `authSafe`, a ContentInfo.
+        /// `authSafe`, a ContentInfo of RFC 2315 section 7, whose content may be absent.
         auth_safe
     }
 
