@@ -26,7 +26,7 @@ pub(crate) fn front<'a>(octets: &'a [u8]) -> Option<(u8, &'a [u8], &'a [u8])>
 
 /// What `front` finds is the encoding at the front (X.690 8.1.1), where its identifier has one
 /// octet and it has less than 16777216 contents octets.
-pub fn fronts_are_encodings()
+pub(crate) fn fronts_are_encodings()
     ensures { (t : Tag) (i : ℕ) (c x : List ℕ) → identifier t ≡ i ∷ [] → length c < 2 ^ 24
         → front_of (tlv t c ++ x) ≡ Some (i, c, x) }
 {}
