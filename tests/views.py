@@ -387,10 +387,14 @@ def check_rules(program):
             fail(f"--check, {rule}: {status}, {text!r}, {said!r}")
     names = broken.certificate(subject=hand_made.name(), more=[hand_made.NAMES, broken.OWN])[0]
     good = rule_rows.GOOD + rule_rows.GOOD_LISTS
-    for octets in (*good, broken.certificate()[0], names, broken.revocation()[0], message("ED25519"), message("RSA_PUBLIC")):
+    for octets in (*good, broken.certificate()[0], names, broken.revocation()[0], message("RSA_PUBLIC")):
         ends("--check of what breaks no rule", run(program, ["--check"], octets), run(program, [], octets))
     bundle = run(program, ["--check", "--fields", "breaks", f"{programs.TESTS}/views/certificate.pem"])
-    ends("--check of a file", bundle, (0, b"", b""))
+    with open(f"{programs.TESTS}/views/certificate.pem", encoding="ascii") as file:
+        whole = base64.b64decode("".join(file.read().split("-----")[2].split()))
+    usage = hand_made.of_ce(15, b"\x03\x03\x07\xff\x80", True)
+    told = broken.line("4.2.1.3", broken.WORDS["KeyCertSignOnlyInCa"], whole, usage)
+    ends("--check of a file", bundle, (1, told, b""))
 
 
 def show_moments(program):
