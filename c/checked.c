@@ -114,6 +114,94 @@ uint32_t der_cert_id_is(const uint8_t *octets, size_t len, const der_cert_id_has
                              fault);
 }
 
+#define WRITES(name, type)                                                                                                \
+    uint32_t proved_write_##name(const uint8_t *octets, size_t len, const type *at, uint8_t *buffer, size_t buffer_len,  \
+                                 size_t *written, der_fault *fault);                                                     \
+    uint32_t der_write_##name(const uint8_t *octets, size_t len, const type *at, uint8_t *buffer, size_t buffer_len,     \
+                              size_t *written, der_fault *fault)                                                         \
+    {                                                                                                                     \
+        der_fault unasked;                                                                                                \
+        fault = asked(fault, &unasked);                                                                                   \
+        if (is_null(octets, len) || is_null(buffer, buffer_len))                                                          \
+            return refuse(DER_NULL_POINTER, fault);                                                                       \
+        return proved_write_##name(octets, len, at, buffer, buffer_len, written, fault);                                  \
+    }
+
+WRITES(tbs_certificate, der_certificate_at)
+WRITES(certificate, der_certificate_at)
+WRITES(extension, der_extension_at)
+WRITES(revoked_certificate, der_revoked_certificate_at)
+WRITES(tbs_cert_list, der_certificate_list_at)
+WRITES(certificate_list, der_certificate_list_at)
+WRITES(certification_request_info, der_certification_request_at)
+WRITES(certification_request, der_certification_request_at)
+WRITES(cert_id, der_cert_id_at)
+WRITES(request, der_request_at)
+WRITES(tbs_request, der_tbs_request_at)
+WRITES(ocsp_request, der_ocsp_request_at)
+WRITES(single_response, der_single_response_at)
+WRITES(response_data, der_basic_ocsp_response_at)
+WRITES(basic_ocsp_response, der_basic_ocsp_response_at)
+WRITES(ocsp_response, der_ocsp_response_at)
+
+#define WRITES_OCTETS(name)                                                                                               \
+    uint32_t proved_write_##name(const uint8_t *octets, size_t len, uint8_t *buffer, size_t buffer_len, size_t *written, \
+                                 der_fault *fault);                                                                       \
+    uint32_t der_write_##name(const uint8_t *octets, size_t len, uint8_t *buffer, size_t buffer_len, size_t *written,    \
+                              der_fault *fault)                                                                           \
+    {                                                                                                                     \
+        der_fault unasked;                                                                                                \
+        fault = asked(fault, &unasked);                                                                                   \
+        if (is_null(octets, len) || is_null(buffer, buffer_len))                                                          \
+            return refuse(DER_NULL_POINTER, fault);                                                                       \
+        return proved_write_##name(octets, len, buffer, buffer_len, written, fault);                                      \
+    }
+
+WRITES_OCTETS(bit_string)
+WRITES_OCTETS(named_bits)
+WRITES_OCTETS(unsigned_integer)
+WRITES_OCTETS(ed25519_key)
+WRITES_OCTETS(p256_key)
+
+#define WRITES_SECONDS(name)                                                                                              \
+    uint32_t proved_write_##name(uint64_t seconds, uint8_t *buffer, size_t buffer_len, size_t *written,                   \
+                                 der_fault *fault);                                                                       \
+    uint32_t der_write_##name(uint64_t seconds, uint8_t *buffer, size_t buffer_len, size_t *written, der_fault *fault)    \
+    {                                                                                                                     \
+        der_fault unasked;                                                                                                \
+        fault = asked(fault, &unasked);                                                                                   \
+        if (is_null(buffer, buffer_len))                                                                                  \
+            return refuse(DER_NULL_POINTER, fault);                                                                       \
+        return proved_write_##name(seconds, buffer, buffer_len, written, fault);                                          \
+    }
+
+WRITES_SECONDS(time)
+WRITES_SECONDS(generalized_time)
+
+uint32_t proved_write_encoding(uint32_t identifier, const uint8_t *contents, size_t len, uint8_t *buffer, size_t buffer_len,
+                               size_t *written, der_fault *fault);
+uint32_t der_write_encoding(uint32_t identifier, const uint8_t *contents, size_t len, uint8_t *buffer, size_t buffer_len,
+                            size_t *written, der_fault *fault)
+{
+    der_fault unasked;
+    fault = asked(fault, &unasked);
+    if (is_null(contents, len) || is_null(buffer, buffer_len))
+        return refuse(DER_NULL_POINTER, fault);
+    return proved_write_encoding(identifier, contents, len, buffer, buffer_len, written, fault);
+}
+
+uint32_t proved_write_name_attribute(const uint8_t *type, size_t type_len, const uint8_t *text, size_t text_len,
+                                     uint8_t *buffer, size_t buffer_len, size_t *written, der_fault *fault);
+uint32_t der_write_name_attribute(const uint8_t *type, size_t type_len, const uint8_t *text, size_t text_len,
+                                  uint8_t *buffer, size_t buffer_len, size_t *written, der_fault *fault)
+{
+    der_fault unasked;
+    fault = asked(fault, &unasked);
+    if (is_null(type, type_len) || is_null(text, text_len) || is_null(buffer, buffer_len))
+        return refuse(DER_NULL_POINTER, fault);
+    return proved_write_name_attribute(type, type_len, text, text_len, buffer, buffer_len, written, fault);
+}
+
 /* A null pointer has no octets for the calls that return no number of a fault. */
 static size_t there(const uint8_t *octets, size_t len)
 {

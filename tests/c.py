@@ -92,6 +92,17 @@ def make_messages(room):
     return [f"{room}/{name}.pem" for name in names] + make_answers(room)
 
 
+def make_der(room):
+    """The certificate, the list, the requests and the answers in DER; their files."""
+    found = []
+    for kind, names in {"x509": ["own"], "crl": ["list"], "req": ["request", "bare"]}.items():
+        for name in names:
+            found.append(f"{room}/{name}.der")
+            words = ["openssl", kind, "-in", f"{room}/{name}.pem", "-outform", "DER", "-out", found[-1]]
+            subprocess.run(words, check=True, capture_output=True)
+    return found + [f"{room}/{name}" for name in ("asked", "answer", "short")]
+
+
 def make_many(trials, room):
     """The file of more than 500 messages that `cryptography` writes."""
     try:
@@ -128,13 +139,14 @@ def try_c(trials, room, sample, files):
     make = ["make", "-s", "-C", f"{ROOT}/c", f"BUILD={room}/build", f"OBJECT={room}/proved.a"]
     trials.run("make", make)
     trials.run("make install", [*make, "install", f"PREFIX={room}/prefix"])
-    names = {"calls": "calls from C", "inner": "comparisons and texts from C", "canonical": "canonical encodings from C", "rules": "rules of RFC 5280 from C"}
+    names = {"calls": "calls from C", "inner": "comparisons and texts from C", "canonical": "canonical encodings from C", "rules": "rules of RFC 5280 from C", "build": "messages written from C"}
     # (the rules are broken by single octets of a certificate of openssl's, whose extensions are known)
-    given = {name: f"{room}/plain.der" if name == "rules" else sample for name in names}
-    names = {name: what for name, what in names.items() if os.path.isfile(given[name])}
+    given = {name: [f"{room}/plain.der" if name == "rules" else sample] for name in names}
+    given["build"] += make_der(room) if os.path.isfile(f"{room}/own.pem") else []
+    names = {name: what for name, what in names.items() if os.path.isfile(given[name][0])}
     for name, what in names.items():
         trials.run(f"make build/{name}", [*make, f"{room}/build/{name}"])
-        trials.run(what, [f"{room}/build/{name}", given[name]])
+        trials.run(what, [f"{room}/build/{name}", *given[name]])
     trials.run("the example in C", [f"{room}/build/certificate", sample])
     if subprocess.run(["cc", "-E", "-x", "c", "-"], input="#include <openssl/x509.h>\n", text=True, capture_output=True).returncode:
         trials.left_out("C beside OpenSSL", "openssl/x509.h")
@@ -149,7 +161,7 @@ def try_c(trials, room, sample, files):
             trials.left_out("the other examples in C", "openssl")
     if shutil.which("valgrind"):
         for name, what in names.items():
-            words = ["valgrind", "-q", "--error-exitcode=9", "--leak-check=full", f"{room}/build/{name}", given[name]]
+            words = ["valgrind", "-q", "--error-exitcode=9", "--leak-check=full", f"{room}/build/{name}", *given[name]]
             trials.run(f"{what}, under valgrind", words)
     else:
         trials.left_out("calls under valgrind", "valgrind")

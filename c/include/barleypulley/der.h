@@ -1253,6 +1253,125 @@ int der_has_attribute(const der_name_left *left);
 uint32_t der_next_name_attribute(const uint8_t *octets, size_t len, der_name_left *left,
                                  der_attribute_type_and_value_at *out, der_fault *fault);
 
+/* ---- Messages that are written from their parts.
+ *
+ * The caller has the fields of a message as encodings, each with its tag, in octets, in any order; and their places in the
+ * struct that the call that reads the message writes. A place of length 0 is an absent field. Versions, dates in seconds,
+ * `is_critical` and `response_status_number` are taken from the numbers, and the places of these fields are not looked at; a
+ * date or a version that may be absent is absent where its number is 0.
+ *
+ * A call writes the encoding to the front of the buffer, and its length to `written`. If the buffer is too short (103), only
+ * `written` is written, with the length that is enough. Else `written` and the buffer are unchanged, and the result is the
+ * number of the first part that is refused, numbers before fields: 100 if its place is not within the octets, else that of its
+ * first fault, whose position counts from the part. The octets and the buffer do not overlap. No call takes memory. */
+
+/* A TBSCertificate (RFC 5280 4.1.1.1), which is signed: `version_number`, both dates, and the other fields of
+ * tbsCertificate. */
+uint32_t der_write_tbs_certificate(const uint8_t *octets, size_t len, const der_certificate_at *at, uint8_t *buffer,
+                                   size_t buffer_len, size_t *written, der_fault *fault);
+
+/* A Certificate: its three fields. */
+uint32_t der_write_certificate(const uint8_t *octets, size_t len, const der_certificate_at *at, uint8_t *buffer,
+                               size_t buffer_len, size_t *written, der_fault *fault);
+
+/* An Extension (RFC 5280 4.2): `is_critical`, `extn_id` and `extn_value`. */
+uint32_t der_write_extension(const uint8_t *octets, size_t len, const der_extension_at *at, uint8_t *buffer,
+                             size_t buffer_len, size_t *written, der_fault *fault);
+
+/* An entry of a list (RFC 5280 5.1.2.6): the date and the other fields. */
+uint32_t der_write_revoked_certificate(const uint8_t *octets, size_t len, const der_revoked_certificate_at *at,
+                                       uint8_t *buffer, size_t buffer_len, size_t *written, der_fault *fault);
+
+/* A TBSCertList (RFC 5280 5.1.2), which is signed: `version_number`, both dates, and the other fields of tbsCertList. */
+uint32_t der_write_tbs_cert_list(const uint8_t *octets, size_t len, const der_certificate_list_at *at, uint8_t *buffer,
+                                 size_t buffer_len, size_t *written, der_fault *fault);
+
+/* A CertificateList: its three fields. */
+uint32_t der_write_certificate_list(const uint8_t *octets, size_t len, const der_certificate_list_at *at, uint8_t *buffer,
+                                    size_t buffer_len, size_t *written, der_fault *fault);
+
+/* A CertificationRequestInfo (RFC 2986 4.1), which is signed: the fields of certificationRequestInfo but the version,
+ * which is 0. */
+uint32_t der_write_certification_request_info(const uint8_t *octets, size_t len, const der_certification_request_at *at,
+                                              uint8_t *buffer, size_t buffer_len, size_t *written, der_fault *fault);
+
+/* A CertificationRequest: its three fields. */
+uint32_t der_write_certification_request(const uint8_t *octets, size_t len, const der_certification_request_at *at,
+                                         uint8_t *buffer, size_t buffer_len, size_t *written, der_fault *fault);
+
+/* A CertID (RFC 6960 4.1.1). */
+uint32_t der_write_cert_id(const uint8_t *octets, size_t len, const der_cert_id_at *at, uint8_t *buffer, size_t buffer_len,
+                           size_t *written, der_fault *fault);
+
+/* A Request about one certificate (RFC 6960 4.1.1). */
+uint32_t der_write_request(const uint8_t *octets, size_t len, const der_request_at *at, uint8_t *buffer, size_t buffer_len,
+                           size_t *written, der_fault *fault);
+
+/* A TBSRequest (RFC 6960 4.1.1): its fields but the version, which is 0. */
+uint32_t der_write_tbs_request(const uint8_t *octets, size_t len, const der_tbs_request_at *at, uint8_t *buffer,
+                               size_t buffer_len, size_t *written, der_fault *fault);
+
+/* An OCSPRequest (RFC 6960 4.1.1). */
+uint32_t der_write_ocsp_request(const uint8_t *octets, size_t len, const der_ocsp_request_at *at, uint8_t *buffer,
+                                size_t buffer_len, size_t *written, der_fault *fault);
+
+/* A SingleResponse (RFC 6960 4.2.1): both dates, `cert_id`, `cert_status` and `single_extensions`. */
+uint32_t der_write_single_response(const uint8_t *octets, size_t len, const der_single_response_at *at, uint8_t *buffer,
+                                   size_t buffer_len, size_t *written, der_fault *fault);
+
+/* A ResponseData (RFC 6960 4.2.1), which is signed: the date, and the other fields of tbsResponseData but the version,
+ * which is 0. */
+uint32_t der_write_response_data(const uint8_t *octets, size_t len, const der_basic_ocsp_response_at *at, uint8_t *buffer,
+                                 size_t buffer_len, size_t *written, der_fault *fault);
+
+/* A BasicOCSPResponse: its four fields. */
+uint32_t der_write_basic_ocsp_response(const uint8_t *octets, size_t len, const der_basic_ocsp_response_at *at,
+                                       uint8_t *buffer, size_t buffer_len, size_t *written, der_fault *fault);
+
+/* An OCSPResponse (RFC 6960 4.2.1): `response_status_number` and `response_bytes`. */
+uint32_t der_write_ocsp_response(const uint8_t *octets, size_t len, const der_ocsp_response_at *at, uint8_t *buffer,
+                                 size_t buffer_len, size_t *written, der_fault *fault);
+
+/* An encoding with one identifier octet and these contents octets: 0x30 for a SEQUENCE of the encodings in `contents`,
+ * 0x31 for a SET, 0x06 for an OBJECT IDENTIFIER, 0x04 for an OCTET STRING, 0xa0 for the explicit tag [0]. An octet that
+ * is no identifier is refused. */
+uint32_t der_write_encoding(uint32_t identifier, const uint8_t *contents, size_t len, uint8_t *buffer, size_t buffer_len,
+                            size_t *written, der_fault *fault);
+
+/* A BIT STRING of all bits of these octets, such as a signature. */
+uint32_t der_write_bit_string(const uint8_t *octets, size_t len, uint8_t *buffer, size_t buffer_len, size_t *written,
+                              der_fault *fault);
+
+/* A BIT STRING with named bits, such as a KeyUsage: bit 0 is the highest bit of the first octet, and zeros at the end are
+ * left out. Octet 0x06 has the bits 5 and 6, keyCertSign and cRLSign. */
+uint32_t der_write_named_bits(const uint8_t *octets, size_t len, uint8_t *buffer, size_t buffer_len, size_t *written,
+                              der_fault *fault);
+
+/* An INTEGER that is not negative, from its octets, most significant first. */
+uint32_t der_write_unsigned_integer(const uint8_t *octets, size_t len, uint8_t *buffer, size_t buffer_len, size_t *written,
+                                    der_fault *fault);
+
+/* A SubjectPublicKeyInfo of an Ed25519 key, of 32 octets (RFC 8410). */
+uint32_t der_write_ed25519_key(const uint8_t *octets, size_t len, uint8_t *buffer, size_t buffer_len, size_t *written,
+                               der_fault *fault);
+
+/* A SubjectPublicKeyInfo of a P-256 key: 04 and both coordinates, or 02 or 03 and the first (RFC 5480). It is not tested
+ * whether the point is one of the curve. */
+uint32_t der_write_p256_key(const uint8_t *octets, size_t len, uint8_t *buffer, size_t buffer_len, size_t *written,
+                            der_fault *fault);
+
+/* An AttributeTypeAndValue, from the contents octets of its type and its text in UTF-8: a PrintableString, an IA5String
+ * or a UTF8String, as RFC 5280 has it for the type. A text that does not fit is refused (13). der_write_encoding with
+ * 0x31 makes a part of a Name of it, and with 0x30 a Name of parts. */
+uint32_t der_write_name_attribute(const uint8_t *type, size_t type_len, const uint8_t *text, size_t text_len,
+                                  uint8_t *buffer, size_t buffer_len, size_t *written, der_fault *fault);
+
+/* A Time (RFC 5280 4.1.2.5): a UTCTime until 2049, then a GeneralizedTime. A year after 9999 is refused (14). */
+uint32_t der_write_time(uint64_t seconds, uint8_t *buffer, size_t buffer_len, size_t *written, der_fault *fault);
+
+/* A GeneralizedTime. */
+uint32_t der_write_generalized_time(uint64_t seconds, uint8_t *buffer, size_t buffer_len, size_t *written, der_fault *fault);
+
 #undef DER_ASSERT
 #ifdef __cplusplus
 }

@@ -1,2 +1,4 @@
 mod Flags
+mod Made
+mod Parts
 mod Within

@@ -1,9 +1,14 @@
 pub mod Answers
 pub mod Bits
+pub mod Building
 pub mod Comparing
 pub mod GeneralNames
+pub mod Keys
 pub mod Names
+pub mod Numbers
 pub mod Rooms
 pub mod Signed
 pub mod Status
 pub mod Times
+pub mod Values
+pub mod Writers

@@ -10,7 +10,7 @@ use der_tlv::{Error, Length};
 #[repr(C)]
 #[derive(Clone, Copy, Debug, PartialEq, Eq)]
 pub struct Fault {
-    /// The number of the kind, 1 to 17; or 102 or 103 for an error of the call itself.
+    /// The number of the kind, 1 to 17; or 100, 102 or 103 for an error of the call itself.
     pub number: u32,
     /// Whether the position is known: 1 or 0.
     pub is_placed: u32,
@@ -23,15 +23,24 @@ pub(crate) fn refuse(error: Error, fault: &mut Fault) -> u32
     ensures number { result ≡ error_number error.kind }
     ensures written { fault.new ≡ fault_of error }
 {
-    let number = u32::from(error.kind.number());
+    *fault = fault_of(error);
+    fault.number
+}
+
+/// Returns an error as it is written.
+pub(crate) fn fault_of(error: Error) -> Fault
+    ensures { result ≡ fault_of error }
+{
     let (is_placed, position) = place_of(error.position);
-    *fault = Fault {
-        number,
+    Fault {
+        number: u32::from(error.kind.number()),
         is_placed,
         position,
-    };
-    number
+    }
 }
+
+/// A place is not within the octets.
+pub(crate) const BAD_PLACE: u32 = 100;
 
 /// No type has the name.
 pub(crate) const UNKNOWN_NAME: u32 = 102;
@@ -44,12 +53,19 @@ pub(crate) fn refuse_call(answer: u32, fault: &mut Fault) -> u32
     ensures number { result ≡ answer }
     ensures written { fault.new ≡ fault_of_call answer }
 {
-    *fault = Fault {
+    *fault = fault_of_call(answer);
+    answer
+}
+
+/// Returns an error of the call itself as it is written.
+pub(crate) fn fault_of_call(answer: u32) -> Fault
+    ensures { result ≡ fault_of_call answer }
+{
+    Fault {
         number: answer,
         is_placed: 0,
         position: 0,
-    };
-    answer
+    }
 }
 
 /// Returns whether a position is known, and the position, or 0.

@@ -10,6 +10,7 @@ mod algorithms;
 mod attribute;
 mod basic_ocsp_response;
 mod bits;
+pub mod building;
 mod canonical;
 mod certificate;
 mod certificate_list;

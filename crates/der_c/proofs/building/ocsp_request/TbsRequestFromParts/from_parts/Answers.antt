@@ -1,0 +1,24 @@
+use Rattle.std.proofs.Common.{ap, inr, option_map, ◌∙◌}
+use Rattle.der_places.specs.Layout.{explicit}
+use Rattle.der_c.proofs.Parts.{at_same}
+use Rattle.der_c.proofs.building.ocsp_request.TbsRequestFromParts.from_parts.Goals as goal
+
+pub returns-in-Err : goal.returns-in-Err
+returns-in-Err c = inr c.in-Err.ensures
+
+pub returns-in-Ok : goal.returns-in-Ok
+returns-in-Ok c =
+    let made = c.new.ensures in
+    let read = c.in-Ok.ensures in (
+      made.version,
+      (
+        at_same (ap (option_map explicit) made.requestor_name ∙ c.behind_explicit.ensures) read.0,
+        (
+          at_same made.request_list read.1.0,
+          (
+            at_same (ap (option_map explicit) made.request_extensions ∙ c.behind_explicit-in-Ok.ensures) read.1.1.0,
+            tt,
+          ),
+        ),
+      ),
+    )

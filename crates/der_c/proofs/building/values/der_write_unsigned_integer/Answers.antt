@@ -1,0 +1,5 @@
+use Rattle.der_c.proofs.Made.{builds_made}
+use Rattle.der_c.proofs.building.values.der_write_unsigned_integer.Goals as goal
+
+pub returns : goal.returns
+returns c = builds_made _ _ _ _ _ _ _ _ _ _ _ c.natural_of.ensures.ok c.natural_of.ensures.err c.write_made.ensures
