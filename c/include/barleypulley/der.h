@@ -1265,6 +1265,19 @@ uint32_t der_next_name_attribute(const uint8_t *octets, size_t len, der_name_lef
  * number of the first part that is refused, numbers before fields: 100 if its place is not within the octets, else that of its
  * first fault, whose position counts from the part. The octets and the buffer do not overlap. No call takes memory. */
 
+/* Identifier octets of der_write_encoding. */
+enum der_identifier {
+    DER_BOOLEAN = 0x01, /* 0xff is TRUE */
+    DER_OCTET_STRING = 0x04,
+    DER_NULL = 0x05,
+    DER_OBJECT_IDENTIFIER = 0x06,
+    DER_ENUMERATED = 0x0a,
+    DER_SEQUENCE = 0x30,
+    DER_SET = 0x31,
+    DER_PRIMITIVE = 0x80,  /* + n: the implicit tag [n] of contents octets that are no encodings */
+    DER_CONSTRUCTED = 0xa0 /* + n: the explicit tag [n] of an encoding, or the implicit one of a SEQUENCE or SET */
+};
+
 /* A TBSCertificate (RFC 5280 4.1.1.1), which is signed: `version_number`, both dates, and the other fields of
  * tbsCertificate. */
 uint32_t der_write_tbs_certificate(const uint8_t *octets, size_t len, const der_certificate_at *at, uint8_t *buffer,
@@ -1332,9 +1345,8 @@ uint32_t der_write_basic_ocsp_response(const uint8_t *octets, size_t len, const 
 uint32_t der_write_ocsp_response(const uint8_t *octets, size_t len, const der_ocsp_response_at *at, uint8_t *buffer,
                                  size_t buffer_len, size_t *written, der_fault *fault);
 
-/* An encoding with one identifier octet and these contents octets: 0x30 for a SEQUENCE of the encodings in `contents`,
- * 0x31 for a SET, 0x06 for an OBJECT IDENTIFIER, 0x04 for an OCTET STRING, 0xa0 for the explicit tag [0]. An octet that
- * is no identifier is refused. */
+/* An encoding with an identifier octet, such as one of der_identifier, and these contents octets, which are not read.
+ * Another number is refused. */
 uint32_t der_write_encoding(uint32_t identifier, const uint8_t *contents, size_t len, uint8_t *buffer, size_t buffer_len,
                             size_t *written, der_fault *fault);
 
@@ -1361,8 +1373,8 @@ uint32_t der_write_p256_key(const uint8_t *octets, size_t len, uint8_t *buffer, 
                             der_fault *fault);
 
 /* An AttributeTypeAndValue, from the contents octets of its type and its text in UTF-8: a PrintableString, an IA5String
- * or a UTF8String, as RFC 5280 has it for the type. A text that does not fit is refused (13). der_write_encoding with
- * 0x31 makes a part of a Name of it, and with 0x30 a Name of parts. */
+ * or a UTF8String, as RFC 5280 has it for the type. A text that does not fit is refused (13). der_write_encoding makes a
+ * part of a Name of it (DER_SET), and a Name of parts (DER_SEQUENCE). */
 uint32_t der_write_name_attribute(const uint8_t *type, size_t type_len, const uint8_t *text, size_t text_len,
                                   uint8_t *buffer, size_t buffer_len, size_t *written, der_fault *fault);
 
