@@ -22,6 +22,9 @@ subjectKeyIdentifier = hash
 [no_use]
 basicConstraints = critical,CA:true
 keyUsage = critical,digitalSignature
+[no_ca]
+basicConstraints = critical,CA:false
+keyUsage = critical,keyCertSign
 [server]
 basicConstraints = CA:false
 keyUsage = critical,digitalSignature
@@ -30,6 +33,9 @@ subjectAltName = DNS:a.example,DNS:*.b.example,IP:192.0.2.7,IP:2001:db8::7
 subjectKeyIdentifier = hash
 [bare]
 subjectAltName = email:a@c.example
+[doubled]
+subjectAltName = DNS:c.example
+2.5.29.99 = DER:3003820161
 [client]
 extendedKeyUsage = clientAuth
 subjectAltName = DNS:c.example
@@ -39,6 +45,8 @@ subjectAltName = DNS:c.example
 extendedKeyUsage = OCSPSigning
 [stamper]
 extendedKeyUsage = critical,timeStamping
+[stamper_too]
+extendedKeyUsage = critical,timeStamping,serverAuth
 [ca]
 default_ca = list
 [list]
@@ -61,26 +69,33 @@ ess_cert_id_alg = sha256
 """
 KEYS = {"ec": "EC -pkeyopt ec_paramgen_curve:P-256", "p384": "EC -pkeyopt ec_paramgen_curve:P-384", "rsa": "RSA", "ed": "ED25519"}
 PSS = "rsa_padding_mode:pss {0} rsa_pss_saltlen:32"
-# certificates: the key, the issuer (none: itself), the section, the subject
+# certificates: the key, or the name of the one with this key; the issuer (none: itself), the section, the subject
 CERTIFICATES = {
     "ca": ("ec", None, "authority", "/CN=one"),
+    "renamed": ("ca", None, "authority", "/CN=two"),
     "again": ("p384", None, "authority", "/CN=one"),
     "other": ("ec", None, "authority", "/CN=other"),
     "rsa_ca": ("rsa", None, "authority", "/CN=rsa"),
     "ed_ca": ("ed", None, "authority", "/CN=ed"),
     "no_use": ("ec", None, "no_use", "/CN=no"),
+    "no_ca": ("ec", None, "no_ca", "/CN=no"),
     "leaf": ("p384", "ca", "server", "/CN=leaf"),
+    "leaf_again": ("leaf", "ca", "bare", "/CN=leaf"),
     "by_rsa": ("ec", "rsa_ca", "server", "/CN=leaf"),
     "by_pss": ("rsa", "rsa_ca", "server", "/CN=leaf"),
     "by_ed": ("ed", "ed_ca", "server", "/CN=leaf"),
     "by_no_use": ("ec", "no_use", "server", "/CN=leaf"),
+    "by_no_ca": ("ec", "no_ca", "server", "/CN=leaf"),
     "by_leaf": ("ec", "leaf", "server", "/CN=below"),
     "bare": ("rsa", "ca", "bare", "/CN=bare"),
+    "doubled": ("ec", "ca", "doubled", "/CN=doubled"),
     "client": ("ec", "ca", "client", "/CN=client"),
     "unknown": ("ec", "ca", "unknown", "/CN=unknown"),
     "responder": ("rsa", "ca", "responder", "/CN=responder"),
     "others": ("rsa", "other", "responder", "/CN=responder"),
     "stamper": ("ec", "ca", "stamper", "/CN=stamper"),
+    "stamper_again": ("stamper", "ca", "stamper", "/CN=stamper"),
+    "stamper_too": ("ec", "ca", "stamper_too", "/CN=stamper"),
     "rsa_stamper": ("rsa", "rsa_ca", "stamper", "/CN=stamper"),
 }
 
@@ -139,7 +154,7 @@ class Room:
 def make_certificates(room):
     """A key and a certificate for each name, in PEM and in DER."""
     for name, (key, issuer, section, subject) in CERTIFICATES.items():
-        room.make(f"genpkey -algorithm {KEYS[key]} -out {name}.key")
+        room.make(f"genpkey -algorithm {KEYS[key]} -out {name}.key" if key in KEYS else f"pkey -in {key}.key -out {name}.key")
         asked = f"req -new -key {name}.key -config settings -subj {subject} -set_serial {serial_of(name)} -out {name}"
         if issuer is None:
             room.make(f"{asked}.pem -x509 -extensions {section} -days 300")
@@ -147,25 +162,43 @@ def make_certificates(room):
             room.make(f"{asked}.csr")
             signed = f"-CA {issuer}.pem -CAkey {issuer}.key -set_serial {serial_of(name)} -extfile settings -extensions {section}"
             words = "-sigopt " + PSS.format("-sigopt") if "pss" in name else ""
-            room.make(f"x509 -req -in {name}.csr -days 100 {signed} {words} -out {name}.pem")
+            room.make(f"x509 -req -in {name}.csr -days {90 if 'again' in name else 100} {signed} {words} -out {name}.pem")
         room.make(f"x509 -in {name}.pem -outform DER -out {name}.der")
 
 
 def serial_of(name):
-    return list(CERTIFICATES).index(name) + 1
+    """A number of its own; stamper_again has that of stamper."""
+    return list(CERTIFICATES).index("stamper" if name == "stamper_again" else name) + 1
+
+
+def sequence(contents):
+    """The encoding of a SEQUENCE with at least 256 contents octets."""
+    return b"\x30\x82" + len(contents).to_bytes(2, "big") + contents
+
+
+def make_twice(room):
+    """A certificate with two extensions of one identifier, which openssl does not write; signed by that of ca."""
+    room.make("asn1parse -inform DER -in doubled.der -strparse 4 -noout -out signed")
+    room.write("signed", room.read("signed").replace(bytes.fromhex("0603551d63"), bytes.fromhex("0603551d11")))
+    room.make("dgst -sha256 -sign ca.key -out signature signed")
+    signature = room.read("signature")
+    algorithm = bytes.fromhex("300a06082a8648ce3d040302")
+    room.write("twice.der", sequence(room.read("signed") + algorithm + bytes([3, len(signature) + 1, 0]) + signature))
 
 
 def try_certificates(room):
     """peer_certificate beside openssl verify."""
+    make_twice(room)
     room.flip("leaf.der", "bad_signature.der")
     room.write("bad_name.der", room.read("leaf.der").replace(b"a.example", b"o.example"))
-    for name in ("bad_signature", "bad_name"):
+    for name in ("bad_signature", "bad_name", "twice"):
         room.make(f"x509 -inform DER -in {name}.der -out {name}.pem")
     rows = [
         (0, "leaf", "ca", 0), (0, "leaf", "ca", 99), (0, "by_rsa", "rsa_ca", 0), (0, "by_pss", "rsa_ca", 0),
         (0, "by_ed", "ed_ca", 0), (0, "bare", "ca", 0), (1, "leaf", "ca", 101), (1, "leaf", "ca", 400), (1, "leaf", "ca", -1),
         (1, "leaf", "again", 0), (1, "leaf", "other", 0), (1, "bad_signature", "ca", 0), (1, "bad_name", "ca", 0),
         (1, "client", "ca", 0), (1, "unknown", "ca", 0), (1, "by_no_use", "no_use", 0), (1, "by_leaf", "leaf", 0),
+        (1, "by_no_ca", "no_ca", 0), (1, "leaf", "renamed", 0), (0, "doubled", "ca", 0), (1, "twice", "ca", 0),
     ]
     for wanted, name, issuer, days in rows:
         moment = room.now + days * DAY
@@ -206,6 +239,7 @@ def make_answers(room):
     room.flip("short", "bad_signature")
     room.flip("by_delegate", "bad_time", room.read("by_delegate").index(b"\x80\x00\x18") + 17)
     room.write("unauthorized", bytes.fromhex("30030a0106"))
+    room.write("bad_status", room.read("by_ca").replace(bytes.fromhex("0a0100"), bytes.fromhex("0a0106"), 1))
 
 
 def try_answers(room):
@@ -215,7 +249,7 @@ def try_answers(room):
         ("good", "by_ca", 0), ("good", "by_ca", 6), ("good", "short", 0), ("good", "sha256", 0), ("good", "by_delegate", 0),
         ("good", "by_key", 0), ("revoked", "late", 0), ("revoked", "late_by_delegate", 0), ("unknown", "nothing", 0),
         ("refused", "about_other", 0), ("refused", "not_delegated", 0), ("refused", "of_other", 0),
-        ("refused", "bad_signature", 0), ("refused", "bad_time", 0), ("refused", "unauthorized", 0), ("refused", "by_ca", 8),
+        ("refused", "bad_signature", 0), ("refused", "bad_time", 0), ("refused", "unauthorized", 0), ("refused", "bad_status", 0), ("refused", "by_ca", 8),
         ("refused", "by_ca", -1), ("refused", "by_delegate", 101),
     ]
     for wanted, name, days in rows:
@@ -313,7 +347,7 @@ def try_signatures(room):
         (0, "attached", "leaf", ""), (0, "detached", "leaf", "text"), (0, "by_identifier", "leaf", ""),
         (0, "bare", "leaf", "text"), (0, "sha512", "leaf", ""), (0, "rsa", "bare", ""), (0, "pss", "bare", ""),
         (1, "detached", "leaf", "altered"), (1, "detached", "leaf", ""), (1, "bare", "leaf", "altered"),
-        (1, "attached", "bare", ""), (1, "by_identifier", "bare", ""), (1, "rsa", "leaf", ""), (1, "two", "leaf", ""),
+        (1, "attached", "bare", ""), (1, "attached", "leaf_again", ""), (1, "by_identifier", "bare", ""), (1, "rsa", "leaf", ""), (1, "two", "leaf", ""),
         (1, "bad_signature", "leaf", ""), (1, "bad_content", "leaf", ""),
     ]
     for wanted, name, by, content in rows:
@@ -340,10 +374,24 @@ def make_stamps(room):
     room.flip("one.tsr", "bad_time.tsr", octets.index(b"Z", octets.index(b"\x18\x0f20")) - 1)
 
 
+def make_tokens(room):
+    """Tokens that cms signs, since ts does not with such keys, in responses; and one that is not granted."""
+    room.make("ts -reply -in one.tsr -token_out -out one.token")
+    room.make("cms -verify -inform DER -in one.token -certfile stamper.pem -noverify -out info")
+    for name in ("stamper", "client", "stamper_too"):
+        words = f"-econtent_type 1.2.840.113549.1.9.16.1.4 -signer {name}.pem -inkey {name}.key -out {name}.token"
+        room.make(f"cms -sign -binary -nodetach -cades -in info -outform DER {words}")
+        room.write(f"{name}.tsr", sequence(bytes.fromhex("3003020100") + room.read(f"{name}.token")))
+    room.write("rejected.tsr", sequence(bytes.fromhex("3003020102") + room.read("stamper.token")))
+
+
 def try_stamps(room):
     """time_stamp beside openssl ts -verify."""
     make_stamps(room)
+    make_tokens(room)
     rows = [
+        (0, "stamper", "text", "stamper", ""), (1, "client", "text", "client", ""), (1, "stamper_too", "text", "stamper_too", ""),
+        (1, "rejected", "text", "stamper", ""), (1, "one", "text", "stamper_again", ""),
         (0, "one", "text", "stamper", ""), (0, "two", "text", "stamper", ""), (0, "by_rsa", "text", "rsa_stamper", ""),
         (0, "one", "text", "stamper", "one"), (0, "two", "text", "stamper", "two"), (1, "one", "altered", "stamper", ""),
         (1, "one", "text", "rsa_stamper", ""), (1, "by_rsa", "text", "stamper", ""), (1, "one", "text", "stamper", "other"),
