@@ -162,6 +162,7 @@ WRITES_OCTETS(named_bits)
 WRITES_OCTETS(unsigned_integer)
 WRITES_OCTETS(ed25519_key)
 WRITES_OCTETS(p256_key)
+WRITES_OCTETS(rsa_key)
 
 #define WRITES_SECONDS(name)                                                                                              \
     uint32_t proved_write_##name(uint64_t seconds, uint8_t *buffer, size_t buffer_len, size_t *written,                   \

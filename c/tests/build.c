@@ -198,6 +198,8 @@ static void values(void)
           0, 0, 0, 0, 0, 0, 0, 0, 0, 0, 0, 0, 0, 0, 0, 0, 0, 0, 0, 0, 0, 0);
     REFUSES(DER_LENGTH, der_write_ed25519_key(key, 33, REFUSED));
     REFUSES(DER_VALUE, der_write_p256_key(key, 64, REFUSED));
+    GIVES(der_write_rsa_key(five, sizeof five, OUT), 0x30, 0x15, 0x30, 13, 6, 9, 0x2a, 0x86, 0x48, 0x86, 0xf7, 0x0d, 1, 1, 1, 5, 0,
+          3, 4, 0, 2, 1, 5);
     check(der_write_p256_key(key, 65, OUT_OF(length)) == 0 && length == 91, "a key of P-256");
     check(der_subject_public_key_info(written, length, &info, NULL) == 0, "it is read");
     REFUSES(DER_TAG_UNKNOWN, der_write_encoding(0x0e, five, sizeof five, REFUSED));

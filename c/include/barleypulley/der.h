@@ -1372,6 +1372,11 @@ uint32_t der_write_ed25519_key(const uint8_t *octets, size_t len, uint8_t *buffe
 uint32_t der_write_p256_key(const uint8_t *octets, size_t len, uint8_t *buffer, size_t buffer_len, size_t *written,
                             der_fault *fault);
 
+/* A SubjectPublicKeyInfo of an RSA key, from the encoding of its RSAPublicKey, which is not read: a SEQUENCE of the
+ * modulus and the exponent. */
+uint32_t der_write_rsa_key(const uint8_t *octets, size_t len, uint8_t *buffer, size_t buffer_len, size_t *written,
+                           der_fault *fault);
+
 /* An AttributeTypeAndValue, from the contents octets of its type and its text in UTF-8: a PrintableString, an IA5String
  * or a UTF8String, as RFC 5280 has it for the type. A text that does not fit is refused (13). der_write_encoding makes a
  * part of a Name of it (DER_SET), and a Name of parts (DER_SEQUENCE). */

@@ -37,7 +37,9 @@ pub use certificate_list::{
 };
 use der_elem::{Encode, Form};
 pub use extension::der_write_extension;
-pub use keys::{der_write_ed25519_key, der_write_name_attribute, der_write_p256_key};
+pub use keys::{
+    der_write_ed25519_key, der_write_name_attribute, der_write_p256_key, der_write_rsa_key,
+};
 pub use ocsp_request::{
     der_write_cert_id, der_write_ocsp_request, der_write_request, der_write_tbs_request,
 };

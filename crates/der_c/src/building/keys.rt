@@ -1,14 +1,16 @@
 //! Attributes of names and public keys, as `der_build` makes them.
 
 ghost use Rattle.std.specs.Prelude.{◌≡◌, IfErr, IfOk};
+ghost use Rattle.der_tlv.specs.declared.tag.Tag.TheVariants as tags;
 ghost use Rattle.der_build.specs.Attributes.{attribute_octets};
-ghost use Rattle.der_build.specs.Keys.{ed25519_octets, p256_octets};
+ghost use Rattle.der_build.specs.Keys.{ed25519_octets, p256_octets, rsa_octets};
 ghost use Rattle.der_c.specs.Building.{Builds};
 ghost use Rattle.der_c.specs.Keys.{IsNoAttribute, IsNoEd25519, IsNoPoint};
+ghost use Rattle.der_c.specs.Values.{IsTooMany};
 
 use super::room_writer::write_made;
 use crate::fault::{Fault, fault_of};
-use der_build::{TextAttribute, attribute, ed25519_key, p256_key};
+use der_build::{TextAttribute, attribute, ed25519_key, p256_key, rsa_key};
 use der_elem::{Form, text_of};
 use der_pkix::certificate::SubjectPublicKeyInfo;
 use der_pkix::name::AttributeTypeAndValue;
@@ -102,6 +104,35 @@ fn p256_of<'a>(point: &'a [u8]) -> Result<SubjectPublicKeyInfo<'a>, Fault>
     ensures err { IfErr result (λ f. IsNoPoint point.now f) }
 {
     match p256_key(point) {
+        Ok(key) => Ok(key),
+        Err(error) => Err(fault_of(error)),
+    }
+}
+
+/// Writes a SubjectPublicKeyInfo of an RSA key from the encoding of its RSAPublicKey, which is not
+/// read (RFC 3279 2.3.1).
+#[unsafe(no_mangle)]
+pub extern "C" fn der_write_rsa_key<'a>(
+    key: &'a [u8],
+    room: &mut [u8],
+    count: &mut usize,
+    fault: &mut Fault,
+) -> u32
+    ensures { Builds ⟦<SubjectPublicKeyInfo<'a> as Form>⟧
+        (λ k. ⟦<SubjectPublicKeyInfo<'a> as Form>⟧.encoding k ≡ rsa_octets key.now)
+        (IsTooMany tags.BitString key.now)
+        room.old room.new count.old count.new fault.old fault.new result }
+{
+    write_made(rsa_of(key), room, count, fault)
+}
+
+/// Returns an RSA key.
+fn rsa_of<'a>(key: &'a [u8]) -> Result<SubjectPublicKeyInfo<'a>, Fault>
+    ensures ok { IfOk result (λ k. ⟦<SubjectPublicKeyInfo<'a> as Form>⟧.encoding k
+        ≡ rsa_octets key.now) }
+    ensures err { IfErr result (λ f. IsTooMany tags.BitString key.now f) }
+{
+    match rsa_key(key) {
         Ok(key) => Ok(key),
         Err(error) => Err(fault_of(error)),
     }
