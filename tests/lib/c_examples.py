@@ -139,9 +139,9 @@ class Room:
             raise RuntimeError(f"openssl {words}: {told}")
 
     def program(self, name, *words):
-        """Runs a program; gives its status and what it printed."""
-        ran = subprocess.run([f"{self.build}/{name}", *map(str, words)], cwd=self.folder, capture_output=True, text=True)
-        return ran.returncode, ran.stdout
+        """Runs a program; gives its status and what it printed: text, or a certificate in DER."""
+        ran = subprocess.run([f"{self.build}/{name}", *map(str, words)], cwd=self.folder, capture_output=True)
+        return ran.returncode, ran.stdout if name == "csr_to_certificate" else ran.stdout.decode()
 
     def same(self, what, wanted, found, beside):
         """Both sides must say what is wanted."""
@@ -164,6 +164,11 @@ def make_certificates(room):
             words = "-sigopt " + PSS.format("-sigopt") if "pss" in name else ""
             room.make(f"x509 -req -in {name}.csr -days {90 if 'again' in name else 100} {signed} {words} -out {name}.pem")
         room.make(f"x509 -in {name}.pem -outform DER -out {name}.der")
+
+
+def seconds_of(text):
+    """The seconds from 1970 of a date as openssl prints it."""
+    return calendar.timegm(time.strptime(text, "%b %d %H:%M:%S %Y GMT"))
 
 
 def serial_of(name):
@@ -302,6 +307,49 @@ def try_lists(room):
     room.holds("crl_check: the entry", told == "revoked, at 1767323045, reason keyCompromise\n", told)
 
 
+def make_requests(room):
+    """Requests of several keys, with and without names of hosts, and spoilt ones."""
+    names = "-addext subjectAltName=DNS:r.example,IP:192.0.2.9"
+    made = {"named": f"leaf {names}", "rsa_named": f"bare {names}", "ed_named": f"by_ed {names}", "unnamed": "leaf",
+            "asks_much": "leaf -addext basicConstraints=critical,CA:true"}
+    for name, words in made.items():
+        key, *more = words.split()
+        room.make(f"req -new -key {key}.key -config settings -subj /O=two/CN={name} {' '.join(more)} -outform DER -out {name}.req")
+    octets = room.read("named.req")
+    room.flip("named.req", "bad_signature.req")
+    room.write("bad_name.req", octets.replace(b"r.example", b"o.example"))
+    room.write("bad_subject.req", octets.replace(b"named", b"Named"))
+    room.write("cut.req", octets[:-1])
+    room.write("certificate.req", room.read("leaf.der"))
+
+
+def try_requests(room):
+    """csr_to_certificate beside openssl x509 -req: both issue certificates for the same names and keys."""
+    make_requests(room)
+    rows = [(0, name, issuer, issuer) for name in ("named", "rsa_named", "ed_named", "unnamed") for issuer in ("ca", "rsa_ca", "ed_ca")]
+    rows += [(1, name, "ca", "ca") for name in ("bad_signature", "bad_name", "bad_subject", "cut", "certificate")]
+    rows += [(1, "named", "ca", "other"), (1, "named", "ca", "rsa_ca")]
+    for wanted, name, issuer, key in rows:
+        words = f"-CA {issuer}.pem -CAkey {key}.key -set_serial 0x00a1b2c3 -copy_extensions copy -days 30 -out beside.pem"
+        beside, _ = room.openssl(f"x509 -req -inform DER -in {name}.req {words}")
+        found, octets = room.program("csr_to_certificate", f"{name}.req", f"{issuer}.der", f"{key}.key", "a1b2c3", 30)
+        room.same(f"csr_to_certificate: {name} by {issuer} with the key of {key}", wanted, found, beside)
+        if not wanted:
+            room.write("issued.der", octets)
+            room.make("x509 -inform DER -in issued.der -out issued.pem")
+            shown = "-noout -subject -issuer -serial -pubkey -ext subjectAltName"
+            told = [room.openssl(f"x509 -in {it}.pem {shown}")[1] for it in ("issued", "beside")]
+            room.holds(f"csr_to_certificate: what {name} by {issuer} has", told[0] == told[1], told)
+            ends = [seconds_of(room.openssl(f"x509 -in {it}.pem -noout -enddate")[1].split("=")[1].strip()) for it in ("issued", "beside")]
+            room.holds(f"csr_to_certificate: the end of {name} by {issuer}", abs(ends[0] - ends[1]) < 60, ends)
+            verified, _ = room.openssl(f"verify -no-CApath -no-CAfile -partial_chain -trusted {issuer}.pem issued.pem")
+            room.holds(f"csr_to_certificate: {name} by {issuer} is verified", verified == 0, verified)
+    _, octets = room.program("csr_to_certificate", "asks_much.req", "ca.der", "ca.key", "01", 30)
+    room.write("issued.der", octets)
+    told = room.openssl("x509 -inform DER -in issued.der -noout -text")[1]
+    room.holds("csr_to_certificate: nothing but names is granted", "CN = asks_much" in told and "CA:TRUE" not in told, told)
+
+
 def try_pkcs12(room):
     """pkcs12 beside openssl pkcs12: the same certificates and keys."""
     made = {
@@ -407,13 +455,13 @@ def try_stamps(room):
         room.same(f"time_stamp: {name} of {data}, {by}, {query}", wanted, found, beside)
         if not wanted:
             at = re.search(r"Time stamp: (.*)", room.openssl(f"ts -reply -in {name}.tsr -text")[1])[1]
-            room.holds(f"time_stamp: the time of {name}", int(told) == calendar.timegm(time.strptime(at, "%b %d %H:%M:%S %Y GMT")), told)
+            room.holds(f"time_stamp: the time of {name}", int(told) == seconds_of(at), told)
 
 
 def try_examples(trials, folder, build):
     """Tries each program on what openssl makes in a folder."""
     before, room = trials.passed, Room(trials, folder, build)
     make_certificates(room)
-    for of in (try_certificates, try_hosts, try_answers, try_lists, try_pkcs12, try_signatures, try_stamps):
+    for of in (try_certificates, try_hosts, try_answers, try_lists, try_requests, try_pkcs12, try_signatures, try_stamps):
         of(room)
     print(f"c: the programs of c/examples, beside openssl: {trials.passed - before} answers", flush=True)
