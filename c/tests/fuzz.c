@@ -14,12 +14,14 @@ static void extension(const uint8_t *o, uint32_t size)
     CALL(der_extension_at, der_extension, o, size);
     CHECK(s.at.whole.offset == 0 && s.at.is_critical <= 1 && s.at.critical.length == 3 * s.at.is_critical);
     walk(o, s.at.whole, &s.at.extn_id, 3);
+    AGAIN(extension, o, size, &s.at, s.at.whole);
 }
 
 static void entry(const uint8_t *o, uint32_t size)
 {
     CALL(der_revoked_certificate_at, der_revoked_certificate, o, size);
     walk(o, s.at.whole, &s.at.user_certificate, 3);
+    AGAIN(revoked_certificate, o, size, &s.at, s.at.whole);
 }
 
 /* a name that was read has attributes, one behind another, and all of them are read */
@@ -44,6 +46,8 @@ static void certificate(const uint8_t *o, uint32_t size)
     CALL(der_certificate_at, der_certificate, o, size);
     walk(o, all, &s.at.tbs_certificate, 3);
     walk(o, s.at.tbs_certificate, &s.at.version, 10);
+    AGAIN(certificate, o, size, &s.at, all);
+    AGAIN(tbs_certificate, o, size, &s.at, s.at.tbs_certificate);
     all = der_signed_octets(o, size);
     CHECK(memcmp(&all, &s.at.tbs_certificate, sizeof all) == 0);
     for (left = der_extensions(o, size, &s.at.extensions); left.length > 0;)
@@ -74,6 +78,8 @@ static void list(const uint8_t *o, uint32_t size)
     CALL(der_certificate_list_at, der_certificate_list, o, size);
     walk(o, all, &s.at.tbs_cert_list, 3);
     walk(o, s.at.tbs_cert_list, &s.at.version, 7);
+    AGAIN(certificate_list, o, size, &s.at, all);
+    AGAIN(tbs_cert_list, o, size, &s.at, s.at.tbs_cert_list);
     for (left = der_items(o, size, &s.at.revoked_certificates); left.length > 0;)
         CHECK(der_next_revoked_certificate(o, size, &left, &at, &fault) == 0);
     CHECK(left.offset == s.at.revoked_certificates.offset + s.at.revoked_certificates.length);
@@ -114,6 +120,8 @@ static void request(const uint8_t *o, uint32_t size)
     CALL(der_certification_request_at, der_certification_request, o, size);
     walk(o, all, &s.at.certification_request_info, 3);
     walk(o, s.at.certification_request_info, &s.at.version, 4);
+    AGAIN(certification_request, o, size, &s.at, all);
+    AGAIN(certification_request_info, o, size, &s.at, s.at.certification_request_info);
     name(o, size, s.at.subject);
     attributes(o, size, s.at.attributes);
 }
@@ -124,6 +132,7 @@ static void status(const uint8_t *o, uint32_t size)
     CALL(der_ocsp_response_at, der_ocsp_response, o, size);
     CHECK(s.at.response_status_number >= 0 && s.at.response_status_number <= 6);
     walk(o, all, &s.at.response_status, 2);
+    AGAIN(ocsp_response, o, size, &s.at, all);
     if (s.at.response_bytes.length > 0)
         walk(o, der_contents(o, size, &s.at.response_bytes), &s.at.response_type, 2);
     else
@@ -138,6 +147,8 @@ static void basic(const uint8_t *o, uint32_t size)
     CALL(der_basic_ocsp_response_at, der_basic_ocsp_response, o, size);
     walk(o, all, &s.at.tbs_response_data, 4);
     walk(o, s.at.tbs_response_data, &s.at.version, 5);
+    AGAIN(basic_ocsp_response, o, size, &s.at, all);
+    AGAIN(response_data, o, size, &s.at, s.at.tbs_response_data);
     for (left = der_items(o, size, &s.at.responses); left.length > 0;)
         CHECK(der_next_single_response(o, size, &left, &at, &fault) == 0);
     CHECK(left.offset == s.at.responses.offset + s.at.responses.length);
@@ -148,6 +159,7 @@ static void single(const uint8_t *o, uint32_t size)
     CALL(der_single_response_at, der_single_response, o, size);
     CHECK(s.at.cert_status_number <= 2);
     walk(o, s.at.whole, &s.at.cert_id, 5);
+    AGAIN(single_response, o, size, &s.at, s.at.whole);
 }
 
 static void content_info(const uint8_t *o, uint32_t size)

@@ -98,4 +98,16 @@ static inline void walk(const uint8_t *o, der_place whole, const der_place *fiel
     ASK(type, call, o, size);     \
     if (answer != 0)              \
     return
+
+/* What was read from a place is written again: the same octets, or fewer where a date had another form, or was 1970 and may be absent. */
+#define AGAIN(call, o, size, at, place)                                                                  \
+    do {                                                                                                 \
+        size_t written = SIZE_MAX, length = (place).length;                                              \
+        uint8_t *buffer = malloc(length);                                                                \
+        der_fault fault;                                                                                 \
+        CHECK(buffer != NULL && der_write_##call(o, size, at, buffer, length, &written, &fault) == 0);   \
+        CHECK(written < length || (written == length && memcmp(buffer, (o) + (place).offset, length) == 0)); \
+        calls++;                                                                                         \
+        free(buffer);                                                                                    \
+    } while (0)
 #endif

@@ -167,6 +167,21 @@ static void hosts(const uint8_t *o, uint32_t size, uint32_t header)
     calls += 3;
 }
 
+static void requests(const uint8_t *o, uint32_t size)
+{
+    der_place all = {0, size};
+    der_ocsp_request_at whole;
+    der_tbs_request_at tbs;
+    der_request_at one;
+    if (der_ocsp_request(o, size, &whole, NULL) == 0)
+        AGAIN(ocsp_request, o, size, &whole, all);
+    if (der_tbs_request(o, size, &tbs, NULL) == 0)
+        AGAIN(tbs_request, o, size, &tbs, all);
+    if (der_request(o, size, &one, NULL) == 0)
+        AGAIN(request, o, size, &one, all);
+    calls += 3;
+}
+
 /* a CertID is that of its own hash values and serial number */
 static void cert_id(const uint8_t *o, uint32_t size)
 {
@@ -182,6 +197,7 @@ static void cert_id(const uint8_t *o, uint32_t size)
     hashes.len = key.length;
     CHECK(der_cert_id_is(o, size, &hashes, o + serial.offset, serial.length, &out, &s.fault) == 0);
     CHECK(out == (name.length == key.length));
+    AGAIN(cert_id, o, size, &s.at, ((der_place){0, size}));
     calls++;
 }
 
@@ -210,5 +226,6 @@ void inner_calls(const uint8_t *o, uint32_t size, uint32_t header)
     identifier(o + header, size - header);
     hosts(o, size, header);
     cert_id(o, size);
+    requests(o, size);
     others(o, size);
 }
