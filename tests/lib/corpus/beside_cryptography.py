@@ -308,7 +308,9 @@ class Beside:
             ("certs", certs_here(basic), lambda: [it.public_bytes(serialization.Encoding.DER) for it in there.certificates]),
         ])
         self.extensions(kind, octets, basic.extensions, lambda: there.extensions)
-        for one, other in zip(single, there.responses):
+        answers, told = attempt(lambda: list(there.responses))
+        self.tally.compare(kind, PEER, "responses", octets, len(single), len(answers) if told is None else told)
+        for one, other in zip(single, answers or ()):
             self.cert_id("SingleResponse", bytes(one), derproved.CertId(one.cert_id), other)
             self.members("SingleResponse", bytes(one), [
                 ("cert_status", one.cert_status.value, lambda: other.certificate_status.value),

@@ -77,6 +77,15 @@ def has_other_trailer(kind, octets):
     return kind == "RsassaPssParams" and int.from_bytes(PEERS[kind].load(octets)["trailer_field"].contents) != 1
 
 
+def has_negative_key(kind, octets):
+    """Whether a number of a key of RSA is negative, which stands in another message, too."""
+    if kind == "RsaPublicKey":
+        return min(numbers(octets)) < 0
+    value = PEERS[kind].load(octets)
+    key = value["tbs_certificate"]["subject_public_key_info"] if kind == "Certificate" else value
+    return min(numbers(key["public_key"].parsed.dump())) < 0
+
+
 # The clauses by which derproved refuses, each with what it is seen by.
 REFUSALS = [
     ("docs/FORMAT.md: a date before 1970 is refused (13)", lambda kind, it: any(year < 1970 for year in faults.dates(it))),
@@ -98,7 +107,7 @@ REFUSALS = [
      lambda kind, it: kind == "ContentInfo" and faults.first_fault(it) is None and faults.signs_another_type(it)),
     ("RFC 8017 A.1.1: a public key has two numbers",
      lambda kind, it: kind == "RsaPublicKey" and len(items(core.SequenceOf.load(it, spec=core.Any))) > 2),
-    ("RFC 8017 A.1.1: the numbers of a key are positive", lambda kind, it: kind == "RsaPublicKey" and min(numbers(it)) < 0),
+    ("RFC 8017 A.1.1: the numbers of a key are positive", has_negative_key),
     ("der.h: der_unsigned_integer reads numbers of 64 bits that are not negative",
      lambda kind, it: kind == "INTEGER" and not 0 <= core.Integer.load(it).native < 1 << 64),
     ("RFC 7468: the label is of another type", lambda kind, it: kind == "EcPrivateKey" and there_refused("PrivateKeyInfo", it) is None),
@@ -110,7 +119,7 @@ OPEN = "RFC 5280 4.1, X.680 14: what an open type or an OCTET STRING holds is re
 OTHERS = [
     ("asn1crypto", r"KeyError: '[0-9.]+'", "RFC 5280 4.1.1.2: any algorithm; asn1crypto knows some"),
     ("asn1crypto", r"", OPEN),
-    ("cryptography", r"UnsupportedAlgorithm|Could not deserialize key data|private key|Invalid EC key|Invalid key|not on (the )?curve",
+    ("cryptography", r"UnsupportedAlgorithm|Could not deserialize key data|private key|Invalid EC key|Invalid key|not on (the )?curve|explicit parameters",
      "RFC 5280 4.1.1.2: any algorithm and any octets of a key; cryptography reads those that it can use"),
     ("cryptography", r"signature_alg|SubjectPublicKeyInfo::algorithm|TbsCertificate::spki",
      "RFC 5280 4.1.1.2: parameters are of any type; cryptography reads them at once"),
@@ -119,6 +128,8 @@ OTHERS = [
     ("cryptography", r"PKCS7", "RFC 5652 3: any type of content; cryptography reads the certificates of signed messages"),
     ("cryptography", r"more than one request|BasicResponse|UnknownDefinedBy|BasicOCSPResponse",
      "RFC 6960 4.1.1, 4.2.1: any number of requests, any type of response, which stands in an OCTET STRING"),
+    ("cryptography", r"Extension::extn_id", "docs/FORMAT.md: an OBJECT IDENTIFIER has up to 39 octets, of any arcs; cryptography 38 reads fewer"),
+    ("cryptography", r"user_certificate|RawRevokedCertificate::user_ce", "RFC 5280 5.1.2.6: a serial number is any INTEGER"),
     ("cryptography", r"InvalidVersion", "RFC 5280 4.1: a version that names nothing is read"),
     ("cryptography", r"DuplicateExtension", "RFC 5280 4.2: each extension stands once; a rule of check_rfc5280, not the grammar"),
     ("cryptography", r"KeyError: \d+", "RFC 7633 4.1: any feature of TLS; cryptography knows 5 and 17"),
@@ -130,6 +141,7 @@ OTHERS = [
     ("cryptography", r"reason code", "RFC 5280 5.3.1: there is no call for a CRLReason"),
     ("cryptography", r"ShortData|UnexpectedTag", "python/README.md: encodings() of what is no list ends early; cryptography refuses it"),
 ]
+ANY_ORDER = "RFC 5280 4.1.2.4: a part of a name is a SET; cryptography 38 gives its attributes in any order"
 UNUSED_BIT = "RFC 5280 4.2.1.13: bit 0 of ReasonFlags is unused; cryptography leaves it out"
 
 
@@ -154,6 +166,12 @@ def is_unused_bit(difference):
     return difference.kind in ("extension 2.5.29.28", "extension 2.5.29.31") and plain[0] == plain[1]
 
 
+def is_other_order(difference):
+    """Whether names differ by the order of attributes, and by those that stand twice in a part."""
+    names = difference.here, difference.there
+    return difference.what in ("issuer", "subject") and not isinstance(names[1], str) and set(names[0]) == set(names[1])
+
+
 def refused_there(difference):
     """The clause by which derproved reads what another refuses. Of asn1crypto's refusals of open types the frame is read."""
     found = next((it for it in OTHERS if difference.peer == it[0] and re.search(it[1], str(difference.there))), None)
@@ -169,6 +187,8 @@ def reason_of(difference):
         return refused_here(difference.kind, difference.octets)
     if is_unused_bit(difference):
         return UNUSED_BIT
+    if is_other_order(difference):
+        return ANY_ORDER
     is_refused = difference.what == THERE_REFUSED or isinstance(difference.there, str) and "Error" in difference.there
     if is_refused or "DuplicateExtension" in str(difference.there):
         return refused_there(difference)
