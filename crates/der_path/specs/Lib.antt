@@ -1,6 +1,16 @@
 pub mod Addresses
+pub mod Basic
+pub mod Both
+pub mod Counters
 pub mod Domains
+pub mod Facts
+pub mod FactsLaws
+pub mod Graphs
 pub mod Hosts
 pub mod Mailboxes
+pub mod Paths
 pub mod Placement
+pub mod Policies
 pub mod Resources
+pub mod Steps
+pub mod Subtrees

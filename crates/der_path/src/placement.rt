@@ -1,7 +1,7 @@
 //! The placement of a name in the subtree of a name constraint (RFC 5280 section 4.2.1.10).
 
 ghost use Rattle.std.specs.Prelude.{◌≡◌};
-ghost use Rattle.der_path.specs.Placement.{inside_if};
+ghost use Rattle.der_path.specs.Placement.{inside_if, is_inside, is_outside, is_undefined};
 
 /// The placement of a name in the subtree of a name constraint.
 #[derive(Clone, Copy, Debug, PartialEq, Eq)]
@@ -27,6 +27,36 @@ impl Placement {
             Placement::Inside
         } else {
             Placement::Outside
+        }
+    }
+
+    /// Returns whether the name is inside.
+    pub(crate) fn is_inside(self) -> bool
+        ensures { result ≡ is_inside self }
+    {
+        match self {
+            Placement::Inside => true,
+            _ => false,
+        }
+    }
+
+    /// Returns whether the name is outside.
+    pub(crate) fn is_outside(self) -> bool
+        ensures { result ≡ is_outside self }
+    {
+        match self {
+            Placement::Outside => true,
+            _ => false,
+        }
+    }
+
+    /// Returns whether the placement is undefined.
+    pub(crate) fn is_undefined(self) -> bool
+        ensures { result ≡ is_undefined self }
+    {
+        match self {
+            Placement::Undefined => true,
+            _ => false,
         }
     }
 }
