@@ -64,6 +64,12 @@ def dates(octets):
             yield year if it.tag == 0x18 else 1900 + year if year >= 50 else 2000 + year
 
 
+def fault_of_key(octets):
+    """The words of the first fault in a key, which stands in a BIT STRING; or None."""
+    held = (it.contents[1:] for it in every(octets) if it.tag == 0x03 and it.contents[1:2] == b"\x30")
+    return next(filter(None, map(first_fault, held)), None)
+
+
 def has_fraction(octets):
     """Whether a GeneralizedTime has a fraction of a second."""
     return any(it.tag == 0x18 and b"." in it.contents for it in every(octets))

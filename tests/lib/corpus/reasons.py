@@ -153,9 +153,9 @@ def holds(predicate, *of):
         return False
 
 
-def refused_here(kind, octets):
-    """The clause by which octets are refused that another takes."""
-    words = faults.first_fault(octets)
+def refused_here(kind, octets, is_inside):
+    """The clause by which octets are refused that another takes, or what stands in them."""
+    words = faults.first_fault(octets) or is_inside and faults.fault_of_key(octets)
     clause = next((it for beginning, it in CLAUSES.items() if words and words.startswith(beginning)), None)
     return clause or next((it for it, seen in REFUSALS if holds(seen, kind, octets)), None)
 
@@ -184,7 +184,7 @@ def reason_of(difference):
     """The clause, or None."""
     is_inside = difference.what == INSIDE_REFUSED or "refused " in str(difference.here)
     if difference.what == HERE_REFUSED or is_inside:
-        return refused_here(difference.kind, difference.octets)
+        return refused_here(difference.kind, difference.octets, is_inside)
     if is_unused_bit(difference):
         return UNUSED_BIT
     if is_other_order(difference):
