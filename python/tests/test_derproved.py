@@ -78,7 +78,8 @@ def in_utc(moment):
 class BesideCryptography(unittest.TestCase):
     def compare_extensions(self, own, others) -> int:
         found = list(own)
-        self.assertEqual([identifier_of(bytes(e.identifier)) for e in found], [e.oid.dotted_string for e in others])
+        self.assertEqual({type(e.identifier) for e in found} - {bytes}, set())
+        self.assertEqual([identifier_of(e.identifier) for e in found], [e.oid.dotted_string for e in others])
         self.assertEqual([e.is_critical for e in found], [e.critical for e in others])
         for one, other in zip(found, others):
             if isinstance(other.value, x509.UnrecognizedExtension):
@@ -164,7 +165,7 @@ class BesideCryptography(unittest.TestCase):
 class MessagesBesideCryptography(unittest.TestCase):
     def compare_name(self, own, other) -> None:
         found = list(derproved.name_attributes(own))
-        self.assertEqual([identifier_of(bytes(a.identifier)) for a in found], [a.oid.dotted_string for a in other])
+        self.assertEqual([identifier_of(a.identifier) for a in found], [a.oid.dotted_string for a in other])
         values = [bytes(derproved.contents(a.value)).decode("utf-8") for a in found]
         self.assertEqual(values, [a.value for a in other])
 
@@ -186,7 +187,7 @@ class MessagesBesideCryptography(unittest.TestCase):
             self.assertEqual(bytes(derproved.contents(own.signature))[1:], other.signature)
             self.assertEqual(bytes(own.subject), other.subject.public_bytes())
             self.compare_name(own.subject, other.subject)
-            identifiers = [identifier_of(bytes(attribute.identifier)) for attribute in own.attributes]
+            identifiers = [identifier_of(attribute.identifier) for attribute in own.attributes]
             self.assertEqual(identifiers, [attribute.oid.dotted_string for attribute in other.attributes])
 
     def test_status(self) -> None:
@@ -241,7 +242,7 @@ class MessagesBesideCryptography(unittest.TestCase):
 
     def digest_of(self, signer) -> bytes:
         """What the attribute messageDigest has."""
-        values = [a.values for a in signer.signed_attributes if identifier_of(bytes(a.identifier)) == "1.2.840.113549.1.9.4"]
+        values = [a.values for a in signer.signed_attributes if identifier_of(a.identifier) == "1.2.840.113549.1.9.4"]
         self.assertEqual(len(values), 1)
         return bytes(derproved.contents(derproved.contents(values[0])))
 
