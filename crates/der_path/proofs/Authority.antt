@@ -1,5 +1,5 @@
 -- One depth after another, from the last upwards.
-use Rattle.std.proofs.Common.{◌≡◌, ℕ, zero, suc, ◌-◌, ◌<◌, List, ap, sym, arith}
+use Rattle.std.proofs.Common.{◌≡◌, ℕ, zero, suc, ◌-◌, ◌<◌, List, ap, arith}
 use Rattle.der_path.specs.declared.graph.Edge.{Edge}
 use Rattle.der_path.specs.declared.policy.Policy.{Policy}
 use Rattle.der_path.specs.Graphs.{add_once, authority, parents_at, roots_at}

@@ -1,5 +1,5 @@
 -- Items that are read one after another, and what is kept of each.
-use Rattle.std.proofs.Common.{◌≡◌, ℕ, ◌+◌, ◌<◌, List, [], ◌∷◌, ◌++◌, length, refl, sym, subst}
+use Rattle.std.proofs.Common.{◌≡◌, ℕ, ◌+◌, ◌<◌, List, [], ◌∷◌, ◌++◌, length, sym, subst}
 use Rattle.der_tlv.specs.ReaderState.{IsReaderState, ReaderState, rest, new_reader}
 use Rattle.der_tlv.specs.declared.encoding_rules.EncodingRules.TheVariants.{Der}
 use Rattle.der_elem.specs.declared.form.Form as form

@@ -1,5 +1,5 @@
 -- Facts that are read one certificate after another.
-use Rattle.std.proofs.Common.{◌≡◌, true, ℕ, zero, suc, ◌+◌, List, [], ◌∷◌, ◌++◌, length, Result, Ok, Err, refl, sym, ap, ◌∙◌, subst, append_assoc, arith, inl, inr}
+use Rattle.std.proofs.Common.{◌≡◌, true, ℕ, zero, ◌+◌, List, [], ◌∷◌, ◌++◌, length, Result, Ok, Err, refl, sym, ap, ◌∙◌, subst, append_assoc, arith, inl, inr}
 use Rattle.std.proofs.lemmas.List.{append-nil, length-append}
 use Rattle.std.specs.Prelude.{IsErrAnd, Vec}
 use Rattle.std.specs.declared.alloc.Global.{Global}
@@ -22,7 +22,7 @@ use Rattle.der_path.specs.declared.path.PathError.TheVariants as error
 use Rattle.der_path.specs.declared.policy.Policy.{Policy}
 use Rattle.der_path.specs.Both.{BothAre}
 use Rattle.der_path.specs.Facts.{Reads, ShowsFacts, ShowsNames, ShowsParts, ShowsPolicies}
-use Rattle.der_path.specs.Paths.{answer, Answers, AnswersChain, EachListed, HasNoFacts, IsAnswer, no_facts_at, ReadsEach, ShowsEach}
+use Rattle.der_path.specs.Paths.{answer, Answers, AnswersChain, EachListed, HasNoFacts, no_facts_at, ReadsEach, ShowsEach}
 use Rattle.der_path.specs.Policies.{is_any}
 
 -- what has no value of one kind has none of another that shows it
@@ -67,9 +67,14 @@ pub record SoFar (chain : List Certificate) (lists : List (List Extension)) (fou
 
 pub none_read : (chain : List Certificate) (lists : List (List Extension)) (found : List Facts) → found ≡ [] → EachListed chain lists → SoFar chain lists found 0 chain
 none_read chain lists found none listed = record {
-  done = []; done_lists = []; left_lists = lists; chain_is = refl; lists_are = refl;
+  done = [];
+  done_lists = [];
+  left_lists = lists;
+  chain_is = refl;
+  lists_are = refl;
   shows = subst (ShowsEach [] []) (sym none) tt;
-  listed = listed; at_is = refl;
+  listed = listed;
+  at_is = refl;
 }
 
 shows_more : (cs : List Certificate) (ls : List (List Extension)) (fs : List Facts) (c : Certificate) (l : List Extension) (f : Facts) → ShowsEach cs ls fs → ShowsFacts c l f → ShowsEach (cs ++ c ∷ []) (ls ++ l ∷ []) (fs ++ f ∷ [])

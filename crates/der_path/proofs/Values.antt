@@ -1,9 +1,9 @@
 -- The value of the only extension with an identifier.
-use Rattle.std.proofs.Common.{◌≡◌, ℕ, ◌<◌, ◌^◌, List, [], ◌∷◌, length, Bool, true, false, Option, Some, None, Ok, Err, sym, ap, ◌∙◌, subst, inl, inr}
+use Rattle.std.proofs.Common.{◌≡◌, ℕ, ◌<◌, ◌^◌, List, [], ◌∷◌, length, false, Option, Some, None, Ok, Err, sym, ◌∙◌, subst, inl, inr}
 use Rattle.der_tlv.specs.declared.encoding_rules.EncodingRules.TheVariants.{Der}
 use Rattle.der_tlv.specs.declared.error.Error.{Error}
 use Rattle.der_elem.specs.declared.form.Form as form
-use Rattle.der_elem.specs.Decoding.{NotAllRead, RanOut, ReadsAll}
+use Rattle.der_elem.specs.Decoding.{ReadsAll}
 use Rattle.der_opaque.specs.OctetStringRef as string
 use Rattle.der_pkix.specs.declared.certificate.extension.Extension.{Extension}
 use Rattle.der_pkix.specs.Certificate.Extension as extension

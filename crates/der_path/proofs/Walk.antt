@@ -1,5 +1,5 @@
 -- The certificates are looked at in their order.
-use Rattle.std.proofs.Common.{◌≡◌, ℕ, ◌+◌, ◌-◌, ◌<◌, ◌≤◌, List, [], ◌∷◌, length, take, drop, get_or, Result, Ok, Err, refl, sym, ap, ◌∙◌, subst, arith}
+use Rattle.std.proofs.Common.{◌≡◌, ℕ, ◌+◌, ◌-◌, ◌≤◌, List, [], ◌∷◌, length, take, drop, get_or, Result, Ok, Err, refl, sym, ap, ◌∙◌, subst, arith}
 use Rattle.der_verify.proofs.Steps.{others_are}
 use Rattle.der_path.specs.declared.facts.Facts.{Facts}
 use Rattle.der_path.specs.declared.names.Part.{Part}
@@ -7,11 +7,10 @@ use Rattle.der_path.specs.declared.path.Inputs.{Inputs}
 use Rattle.der_path.specs.declared.path.PathError.{PathError}
 use Rattle.der_path.specs.declared.path.PathError.TheVariants as error
 use Rattle.der_path.specs.declared.policy.Policy.{Policy}
-use Rattle.der_path.specs.declared.state.State.{State}
 use Rattle.der_path.specs.declared.state.Stop.{Stop}
 use Rattle.der_path.specs.declared.state.Stop.TheVariants as stop
 use Rattle.der_path.specs.declared.step.Step.{Step}
-use Rattle.der_path.specs.Paths.{answer_from, at_index, fault_at, go_on, last_answer, next_state, seen_state, Answers, Continues, SeenState}
+use Rattle.der_path.specs.Paths.{answer_from, at_index, fault_at, go_on, last_answer, next_state, Answers, Continues, SeenState}
 
 pub front : {X : Type 0} (l : List X) (d item : X) (others : List X) → 1 ≤ length l → item ≡ get_or l 0 d → others ≡ take (length l - 1) (drop 1 l) → l ≡ item ∷ others
 front [] d item others some at o = absurd (omega arith)

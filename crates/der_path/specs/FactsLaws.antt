@@ -1,5 +1,5 @@
 -- Extensions with the same encoding are processed alike.
-use Rattle.std.specs.Prelude.{◌≡◌, Bool, not, ◌&&◌}
+use Rattle.std.specs.Prelude.{◌≡◌, not, ◌&&◌}
 use Rattle.std.proofs.Common.{ap, ◌∙◌}
 use Rattle.der_opaque.specs.ObjectIdentifierRef as identifier
 use Rattle.der_pkix.specs.Certificate.Extension as extension

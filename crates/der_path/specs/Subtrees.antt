@@ -9,7 +9,7 @@ use Rattle.der_path.specs.declared.names.PathName.{PathName}
 use Rattle.der_path.specs.declared.names.PathName.TheVariants as name
 use Rattle.der_path.specs.declared.names.Subtree.{Subtree}
 use Rattle.der_path.specs.declared.placement.Placement.{Placement}
-use Rattle.der_path.specs.declared.placement.Placement.TheVariants.{OtherKind, Inside, Outside, Undefined}
+use Rattle.der_path.specs.declared.placement.Placement.TheVariants.{OtherKind, Undefined}
 use Rattle.der_path.specs.Addresses.{address_placement}
 use Rattle.der_path.specs.Domains.{domain_placement}
 use Rattle.der_path.specs.Mailboxes.{mailbox_placement}

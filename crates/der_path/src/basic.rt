@@ -144,18 +144,16 @@ fn excluded_mail<'a>(subtrees: &[Subtree<'a>], subject: &[Part<'a>]) -> bool
 fn permitted_mail_of<'a>(subtrees: &[Subtree<'a>], part: &Part<'a>) -> bool
     ensures { result ≡ permitted_mail_of subtrees.now part.now }
 {
-    part.attributes
-        .iter()
-        .all(|attribute| !is_mail(attribute) || permitted_value(subtrees, attribute))
+    part.attributes.iter().all(|attribute| !is_mail(attribute)
+        || permitted_value(subtrees, attribute))
 }
 
 /// Returns whether an emailAddress of a part is excluded as a mailbox.
 fn excluded_mail_of<'a>(subtrees: &[Subtree<'a>], part: &Part<'a>) -> bool
     ensures { result ≡ excluded_mail_of subtrees.now part.now }
 {
-    part.attributes
-        .iter()
-        .any(|attribute| is_mail(attribute) && excluded_value(subtrees, attribute))
+    part.attributes.iter().any(|attribute| is_mail(attribute)
+        && excluded_value(subtrees, attribute))
 }
 
 /// Returns whether the value of an attribute is permitted as a mailbox.

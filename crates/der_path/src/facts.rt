@@ -109,7 +109,10 @@ pub(crate) fn facts_of<'a>(
     let signed = certificate.tbs_certificate();
     let uses = uses_of(alloc, signed)?;
     let constraints = both(name_facts_of(alloc, signed), policy_facts_of(alloc, signed));
-    let names = both(read_parts(alloc, signed.issuer()), read_parts(alloc, signed.subject()));
+    let names = both(
+        read_parts(alloc, signed.issuer()),
+        read_parts(alloc, signed.subject()),
+    );
     match both(constraints, names) {
         Ok(((names, policies), (issuer, subject))) => Ok(Facts {
             issuer,
@@ -140,7 +143,11 @@ fn uses_of<'a>(alloc: Global, certificate: &TbsCertificate<'a>) -> Result<Uses<'
     ensures { (listed : List Extension) → AreListed ⟦<Extension<'a> as Form>⟧ (tbs_fields.extensions certificate.now) listed
         → Reads (ShowsUses listed) result }
 {
-    let constraints = value_of::<BasicConstraints<'a>>(alloc, certificate, &ID_CE_BASIC_CONSTRAINTS)?;
+    let constraints = value_of::<BasicConstraints<'a>>(
+        alloc,
+        certificate,
+        &ID_CE_BASIC_CONSTRAINTS,
+    )?;
     let usage = value_of::<KeyUsage<'a>>(alloc, certificate, &ID_CE_KEY_USAGE)?;
     Ok(Uses {
         is_ca: is_ca(constraints),
@@ -282,10 +289,22 @@ fn policy_facts_of<'a>(
     ensures { (listed : List Extension) → AreListed ⟦<Extension<'a> as Form>⟧ (tbs_fields.extensions certificate.now) listed
         → Reads (ShowsPolicies listed) result }
 {
-    let policies = value_of::<CertificatePolicies<'a>>(alloc, certificate, &ID_CE_CERTIFICATE_POLICIES)?;
+    let policies = value_of::<CertificatePolicies<'a>>(
+        alloc,
+        certificate,
+        &ID_CE_CERTIFICATE_POLICIES,
+    )?;
     let mappings = value_of::<PolicyMappings<'a>>(alloc, certificate, &ID_CE_POLICY_MAPPINGS)?;
-    let constraints = value_of::<PolicyConstraints<'a>>(alloc, certificate, &ID_CE_POLICY_CONSTRAINTS)?;
-    let inhibit_any_policy = value_of::<UintRef<'a>>(alloc, certificate, &ID_CE_INHIBIT_ANY_POLICY)?;
+    let constraints = value_of::<PolicyConstraints<'a>>(
+        alloc,
+        certificate,
+        &ID_CE_POLICY_CONSTRAINTS,
+    )?;
+    let inhibit_any_policy = value_of::<UintRef<'a>>(
+        alloc,
+        certificate,
+        &ID_CE_INHIBIT_ANY_POLICY,
+    )?;
     match kept_policies(alloc, policies, mappings, constraints, inhibit_any_policy) {
         Ok(facts) => Ok(facts),
         Err(_error) => Err(NoFacts::Memory),

@@ -42,7 +42,11 @@ fn expecting<'a>(
 ) -> Result<Vec<Policy<'a>>, AllocError>
     ensures { IfOk result (λ found. found.items ≡ expecting policy.entry expected.now) }
 {
-    expected.iter().filter(|e| e.policy.is(policy)).map(|e| e.node).collect(alloc)
+    expected
+        .iter()
+        .filter(|e| e.policy.is(policy))
+        .map(|e| e.node)
+        .collect(alloc)
 }
 
 /// Returns the parents of a new node: those that expect its policy, or anyPolicy.
@@ -63,13 +67,14 @@ fn parents<'a>(
 }
 
 /// Returns the nodes of anyPolicy.
-fn nodes_of_any<'a>(
-    alloc: Global,
-    nodes: &[Policy<'a>],
-) -> Result<Vec<Policy<'a>>, AllocError>
+fn nodes_of_any<'a>(alloc: Global, nodes: &[Policy<'a>]) -> Result<Vec<Policy<'a>>, AllocError>
     ensures { IfOk result (λ found. found.items ≡ filter is_any nodes.now) }
 {
-    nodes.iter().copied().filter(|node| node.is_any()).collect(alloc)
+    nodes
+        .iter()
+        .copied()
+        .filter(|node| node.is_any())
+        .collect(alloc)
 }
 
 /// Returns whether a policy is to become a node: it has a parent, and is not among the new nodes.
@@ -116,10 +121,7 @@ fn add_nodes<'a>(
 }
 
 /// Returns the policies of all expected_policy_sets.
-fn targets<'a>(
-    alloc: Global,
-    expected: &[Expected<'a>],
-) -> Result<Vec<Policy<'a>>, AllocError>
+fn targets<'a>(alloc: Global, expected: &[Expected<'a>]) -> Result<Vec<Policy<'a>>, AllocError>
     ensures { IfOk result (λ found. found.items ≡ targets expected.now) }
 {
     expected.iter().map(|e| e.policy).collect(alloc)
@@ -168,10 +170,7 @@ fn add_edges<'a>(
 }
 
 /// Returns the expected_policy_sets of new nodes: each expects its own policy.
-fn expected_alone<'a>(
-    alloc: Global,
-    nodes: &[Policy<'a>],
-) -> Result<Vec<Expected<'a>>, AllocError>
+fn expected_alone<'a>(alloc: Global, nodes: &[Policy<'a>]) -> Result<Vec<Expected<'a>>, AllocError>
     ensures { IfOk result (λ found. found.items ≡ expected_alone nodes.now) }
 {
     nodes
@@ -251,7 +250,11 @@ fn without_mapped<'a>(
 ) -> Result<Vec<Expected<'a>>, AllocError>
     ensures { IfOk result (λ found. found.items ≡ without_mapped expected.now mappings.now) }
 {
-    expected.iter().copied().filter(|e| !is_issuer(mappings, e.node)).collect(alloc)
+    expected
+        .iter()
+        .copied()
+        .filter(|e| !is_issuer(mappings, e.node))
+        .collect(alloc)
 }
 
 /// Returns the expected_policy_sets of mapped nodes.
@@ -280,7 +283,11 @@ fn without_issuers<'a>(
 ) -> Result<Vec<Policy<'a>>, AllocError>
     ensures { IfOk result (λ found. found.items ≡ without_issuers nodes.now mappings.now) }
 {
-    nodes.iter().copied().filter(|node| !is_issuer(mappings, *node)).collect(alloc)
+    nodes
+        .iter()
+        .copied()
+        .filter(|node| !is_issuer(mappings, *node))
+        .collect(alloc)
 }
 
 /// Returns the nodes of a depth whose parent is anyPolicy, of those that are left.
@@ -294,7 +301,10 @@ fn roots_at<'a>(
 {
     edges
         .iter()
-        .filter(|e| e.depth == depth && has_policy(alive, e.child) && e.parent.is_any() && !e.child.is_any())
+        .filter(|e| e.depth == depth
+            && has_policy(alive, e.child)
+            && e.parent.is_any()
+            && !e.child.is_any())
         .map(|e| e.child)
         .collect(alloc)
 }
@@ -381,7 +391,11 @@ fn common<'a>(
 ) -> Result<Vec<Policy<'a>>, AllocError>
     ensures { IfOk result (λ policies. policies.items ≡ common found.now wanted.now) }
 {
-    found.iter().copied().filter(|policy| has_policy(wanted, *policy)).collect(alloc)
+    found
+        .iter()
+        .copied()
+        .filter(|policy| has_policy(wanted, *policy))
+        .collect(alloc)
 }
 
 impl<'a> Graph<'a> {
@@ -433,7 +447,13 @@ impl<'a> Graph<'a> {
     ) -> Result<Vec<Policy<'a>>, AllocError>
         ensures { IfOk result (λ found. found.items ≡ new_nodes (seen_graph self.now) policies.now may_be_any) }
     {
-        let named = add_nodes(&self.nodes, &self.expected, Vec::new(alloc), false, policies)?;
+        let named = add_nodes(
+            &self.nodes,
+            &self.expected,
+            Vec::new(alloc),
+            false,
+            policies,
+        )?;
         if may_be_any && has_any(policies) {
             let targets = targets(alloc, &self.expected)?;
             add_nodes(&self.nodes, &self.expected, named, true, &targets)
@@ -526,7 +546,8 @@ impl<'a> Graph<'a> {
         ensures { IfOk result (λ g. seen_graph g ≡ process_mappings is_mapping mappings.now depth (seen_graph self.entry)) }
     {
         if is_mapping {
-            self.with_issuers(alloc, mappings, depth)?.remapped(alloc, mappings)
+            self.with_issuers(alloc, mappings, depth)?
+                .remapped(alloc, mappings)
         } else {
             self.without(alloc, mappings)
         }
@@ -551,7 +572,11 @@ impl<'a> Graph<'a> {
     }
 
     /// Returns authority_constrained_policy_set (6.1.5 (g)).
-    pub(crate) fn authority(self, alloc: Global, depth: usize) -> Result<Vec<Policy<'a>>, AllocError>
+    pub(crate) fn authority(
+        self,
+        alloc: Global,
+        depth: usize,
+    ) -> Result<Vec<Policy<'a>>, AllocError>
         ensures { IfOk result (λ found. found.items ≡ authority_of depth (seen_graph self.entry)) }
     {
         let Graph {

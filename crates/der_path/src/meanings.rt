@@ -79,4 +79,3 @@ impl<'a> Meant<NamedBitsRef<'a>> for Meanings {
 impl<'a> Meant<UintRef<'a>> for Meanings {
     ghost FORM = { ⟦<UintRef<'a> as Form>⟧ };
 }
-

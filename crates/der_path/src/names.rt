@@ -86,21 +86,27 @@ pub(crate) fn permits<'a>(subtrees: &[Subtree<'a>], name: Named<'_, 'a>) -> bool
 fn one_has_inside<'a>(subtrees: &[Subtree<'a>], name: Named<'_, 'a>) -> bool
     ensures { result ≡ one_has_inside (named_placement name.entry) subtrees.now }
 {
-    subtrees.iter().any(|subtree| placement(subtree, name).is_inside())
+    subtrees
+        .iter()
+        .any(|subtree| placement(subtree, name).is_inside())
 }
 
 /// Returns whether a name is outside one of these subtrees.
 fn one_has_outside<'a>(subtrees: &[Subtree<'a>], name: Named<'_, 'a>) -> bool
     ensures { result ≡ one_has_outside (named_placement name.entry) subtrees.now }
 {
-    subtrees.iter().any(|subtree| placement(subtree, name).is_outside())
+    subtrees
+        .iter()
+        .any(|subtree| placement(subtree, name).is_outside())
 }
 
 /// Returns whether the placement of a name in one of these subtrees is undefined.
 fn one_is_undefined<'a>(subtrees: &[Subtree<'a>], name: Named<'_, 'a>) -> bool
     ensures { result ≡ one_is_undefined (named_placement name.entry) subtrees.now }
 {
-    subtrees.iter().any(|subtree| placement(subtree, name).is_undefined())
+    subtrees
+        .iter()
+        .any(|subtree| placement(subtree, name).is_undefined())
 }
 
 /// Returns whether a name is excluded: it is within one of the subtrees of its kind, or its
@@ -197,17 +203,18 @@ fn each_matches(
 ) -> bool
     ensures { result ≡ each_matches attributes.now others.now }
 {
-    attributes.iter().all(|attribute| matches_one(others, attribute))
+    attributes
+        .iter()
+        .all(|attribute| matches_one(others, attribute))
 }
 
 /// Returns whether an attribute matches one of these.
-fn matches_one(
-    others: &[AttributeTypeAndValue<'_>],
-    attribute: &AttributeTypeAndValue<'_>,
-) -> bool
+fn matches_one(others: &[AttributeTypeAndValue<'_>], attribute: &AttributeTypeAndValue<'_>) -> bool
     ensures { result ≡ list_any (same_attribute attribute.now) others.now }
 {
-    others.iter().any(|other| attributes_match(attribute, other))
+    others
+        .iter()
+        .any(|other| attributes_match(attribute, other))
 }
 
 /// Returns whether two attributes match.

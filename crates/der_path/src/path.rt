@@ -75,10 +75,7 @@ pub fn check_path<'a>(
 }
 
 /// Reads the facts of each certificate.
-fn facts_of_each<'a>(
-    alloc: Global,
-    chain: &[Certificate<'a>],
-) -> Result<Vec<Facts<'a>>, PathError>
+fn facts_of_each<'a>(alloc: Global, chain: &[Certificate<'a>]) -> Result<Vec<Facts<'a>>, PathError>
     ensures { (lists : List (List Extension)) → EachListed chain.now lists → ReadsEach chain.now lists result }
 {
     let mut found = Vec::new(alloc);

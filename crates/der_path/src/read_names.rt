@@ -26,10 +26,7 @@ impl<'a> Keeper<RelativeDistinguishedName<'a>> for KeepPart {
 
     ghost shows = { ShowsPart };
 
-    fn keep(
-        alloc: Global,
-        item: &RelativeDistinguishedName<'a>,
-    ) -> Result<Part<'a>, AllocError> {
+    fn keep(alloc: Global, item: &RelativeDistinguishedName<'a>) -> Result<Part<'a>, AllocError> {
         let attributes = keep_items::<AttributeTypeAndValue<'a>, KeepAttribute>(
             alloc,
             item.items().as_bytes(),
@@ -72,9 +69,10 @@ impl<'a> Keeper<GeneralName<'a>> for KeepName {
             GeneralName::Rfc822Name(text) => Ok(PathName::Octets(1, text.value.as_bytes())),
             GeneralName::DnsName(text) => Ok(PathName::Octets(2, text.value.as_bytes())),
             GeneralName::X400Address(_) => Ok(PathName::Octets(3, &[])),
-            GeneralName::DirectoryName(name) => Ok(PathName::Directory(
-                parts_of(alloc, &name.fields.first)?,
-            )),
+            GeneralName::DirectoryName(name) => Ok(PathName::Directory(parts_of(
+                alloc,
+                &name.fields.first,
+            )?)),
             GeneralName::EdiPartyName(_) => Ok(PathName::Octets(5, &[])),
             GeneralName::UniformResourceIdentifier(text) => Ok(PathName::Octets(
                 6,

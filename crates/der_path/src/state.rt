@@ -120,7 +120,14 @@ pub(crate) fn last_answer<'a>(
     let may_be_any = counters.inhibit_any_policy > 0;
     match processed_graph(alloc, graph, facts, may_be_any, before.len() + 1) {
         Ok(graph) => {
-            wrapped_up(alloc, facts, before.len() + 1, counters, inputs.policies, graph)
+            wrapped_up(
+                alloc,
+                facts,
+                before.len() + 1,
+                counters,
+                inputs.policies,
+                graph,
+            )
         }
         Err(_) => Err(Stop::Memory),
     }

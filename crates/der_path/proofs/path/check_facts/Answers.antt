@@ -1,6 +1,5 @@
 -- The answer from each certificate on.
 use Rattle.std.proofs.Common.{refl, subst, arith}
-use Rattle.der_path.specs.Graphs.{seen_graph}
 use Rattle.der_path.specs.Paths.{seen_state, Answers}
 use Rattle.der_path.proofs.Walk.{at_last, goes_on, stopped}
 use Rattle.der_path.proofs.path.check_facts.Goals as goal
