@@ -181,8 +181,9 @@ def try_header(trials, room):
         trials.tell(f"another struct in {name}", not refusal_of_header(words, room, other) and "it is taken")
     macros = subprocess.run(["cc", "-E", "-dM", f"-I{room}", "-"], input=INCLUDED, text=True, capture_output=True).stdout
     named = re.findall(r"^#define ((?:BARLEYPULLEY_|DER_|der_)\w+)", macros, re.M)
-    other = [name for name in named if name not in ("BARLEYPULLEY_DER_H", "DER_ABI_VERSION")]
-    trials.tell("the macros of the header", other or (len(named) != 2 and f"{named}"))
+    rules = [name for name in named if name.startswith(("DER_CERTIFICATE_", "DER_LIST_"))]
+    other = [name for name in named if name not in (*rules, "BARLEYPULLEY_DER_H", "DER_ABI_VERSION")]
+    trials.tell("the macros of the header", other or len(rules) != header.count("(uint64_t)1 << ") or len(named) != len(rules) + 2)
 
 
 def refusal_of_header(words, room, header):
