@@ -1,5 +1,5 @@
-"""The certificates and lists of `crates/messages_tests/src/tests/verify/rule_data.rt`, each made to break one rule of RFC 5280
-that looks into fields and values. `python3 -m lib.rule_rows`, in tests/, prints that file, and `contracts` compares it."""
+"""Certificates and lists that each break one rule of RFC 5280 that looks into fields and values, and some that break none. Their
+keys and signatures are not right."""
 
 from .chain_parts import (IA5, PRINTABLE, UTF8, alternative_names, attribute, extension, general_name, key_usage, mappings, name, name_constraints,
                           policies, policy_constraints, subtree)
@@ -128,28 +128,3 @@ GOOD_LISTS = [
     revocation(revoked=LATE, entries=([AGAIN],)),
     revocation(extension(bytes.fromhex("551d1b"), integer(6), True), entries=([REMOVED],)),
 ]
-
-
-def rust(kind, rows):
-    """A constant of rows: a rule and the octets in hex."""
-    lines = [f"pub(crate) const {kind.upper()}S: [({kind}Rule, &str); {len(rows)}] = ["]
-    for rule, octets in rows:
-        lines += ["    (", f"        {kind}Rule::{rule},", f'        "{octets.hex()}",', "    ),"]
-    return [*lines, "];", ""]
-
-
-def good(constant, rows):
-    return [f"pub(crate) const {constant}: [&str; {len(rows)}] = [", *(f'    "{it.hex()}",' for it in rows), "];", ""]
-
-
-def text():
-    """The file."""
-    head = ["//! Certificates and lists that break one rule each, and some that break none.", "//!",
-            "//! tests/lib/rule_rows.py makes them. Their keys and signatures are not right.", "", "use der_verify::{CertificateRule, ListRule};", ""]
-    lines = [*head, "/// Certificates, each with the rule that it breaks.", *rust("Certificate", CERTIFICATES), "/// Lists, each with the rule that it breaks.",
-             *rust("List", LISTS), "/// Certificates that break no rule.", *good("GOOD", GOOD), "/// Lists that break no rule.", *good("GOOD_LISTS", GOOD_LISTS)]
-    return "\n".join(lines)
-
-
-if __name__ == "__main__":
-    print(text(), end="")
