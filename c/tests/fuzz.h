@@ -99,7 +99,8 @@ static inline void walk(const uint8_t *o, der_place whole, const der_place *fiel
     if (answer != 0)              \
     return
 
-/* What was read from a place is written again: the same octets, or fewer where a date had another form, or was 1970 and may be absent. */
+/* What was read from a place is written again: the same octets, or fewer where a date had another form, or may be absent and
+ * was the first second of 1970. */
 #define AGAIN(call, o, size, at, place)                                                                  \
     do {                                                                                                 \
         size_t written = SIZE_MAX, length = (place).length;                                              \
