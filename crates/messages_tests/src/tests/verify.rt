@@ -1,6 +1,6 @@
 //! Rules that certificates and lists break, extensions that are found, octets that are signed, and dates.
 
-mod data;
+pub(crate) mod data;
 mod extensions;
 mod list_data;
 mod many;
