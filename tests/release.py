@@ -146,26 +146,27 @@ def use_pkg_config(machine):
 
 # Run as root of a namespace: a root directory with this machine's /usr, but an empty /usr/local, and the release.
 CHROOT = """set -e
-mkdir -p usr etc dev tmp release
+mkdir -p usr etc dev tmp release build
 mount --rbind /usr usr
 mount -t tmpfs none usr/local
 mount --rbind /etc etc
 mount --rbind /dev dev
 mount --bind "$1" release
 for name in bin sbin lib lib64; do [ -L /$name ] && cp -P /$name . || { mkdir $name; mount --rbind /$name $name; }; done
-exec chroot . env -i PATH=/usr/bin:/bin:/usr/sbin:/sbin sh -ec "$2" """
+exec chroot . env -i PATH=/usr/local/bin:/usr/bin:/bin:/usr/sbin:/sbin sh -ec "$2" """
 # Run in it: the library is installed to /usr/local, and the program is built and run by what pkg-config says.
 INSTALLING = """cd /release
-make -s -C c install MACHINE=x86_64 BUILD=/tmp/build
-cd /tmp && cc -std=c11 -o dates /release/dates.c $(pkg-config --cflags --libs barleypulley)
+make -s -C c install BUILD=/build
+cd /build && cc -std=c11 -o dates /release/dates.c $(pkg-config --cflags --libs barleypulley)
 LD_LIBRARY_PATH=$(pkg-config --variable=libdir barleypulley) ./dates /release/sample.der
 test -s /usr/local/share/man/man3/barleypulley.3
-certview /release/sample.der > /tmp/text && test -s /tmp/text"""
+certview /release/sample.der > text && test -s text"""
 
 
 def use_chroot(machine):
     """The library is installed and used in a root directory of its own, with neither the kit nor the repository."""
-    if subprocess.run(["unshare", "--map-root-user", "--mount", "true"], capture_output=True).returncode or not machine.has("pkg-config"):
+    probe = ["unshare", "--map-root-user", "--mount", "mount", "-t", "tmpfs", "none", "/mnt"]
+    if subprocess.run(probe, capture_output=True).returncode or not machine.has("pkg-config"):
         machine.trials.left_out("the library in a root directory of its own", "namespaces of users, or pkg-config,")
         return
     shutil.copy(machine.sample, f"{machine.folder}/sample.der")
