@@ -18,10 +18,16 @@ fn policies_told(
     moment: u64,
     explicit_policy: bool,
 ) -> Result<usize, PathError> {
-    let Ok(certificate) = Certificate::from_der(alloc, octets) else {
+    let Ok(first) = Certificate::from_der(alloc, octets) else {
         return Err(PathError::Unread(0));
     };
-    let chain = [certificate, certificate];
+    let Ok(last) = Certificate::from_der(alloc, octets) else {
+        return Err(PathError::Unread(1));
+    };
+    let Ok(anchor) = Certificate::from_der(alloc, octets) else {
+        return Err(PathError::Unread(0));
+    };
+    let chain = [first, last];
     let policies = [Policy {
         octets: &[0x55, 0x1d, 0x20, 0x00],
     }];
@@ -32,8 +38,12 @@ fn policies_told(
         explicit_policy,
         any_policy_inhibit: false,
     };
-    let anchor = certificate.tbs_certificate().subject();
-    match check_path(alloc, anchor, &chain[..count.min(2)], inputs) {
+    match check_path(
+        alloc,
+        anchor.tbs_certificate().subject(),
+        &chain[..count.min(2)],
+        inputs,
+    ) {
         Ok(found) => Ok(found.len()),
         Err(error) => Err(error),
     }
