@@ -6,6 +6,7 @@ use Rattle.der_elem.specs.declared.form.Form as form
 use Rattle.der_elem.specs.Decoding.{Decoded}
 use Rattle.der_nest.proofs.CountedReading.{all_octets, none_counted, one_more_counted, CountedSoFar}
 use Rattle.der_verify.specs.Shown.{AreShown, ShowEach}
+use Rattle.der_path.proofs.ShowingEach.{show_more}
 
 -- some items were read, and each shows what is kept at its index
 pub record KeptSoFar {T X : Type 0} (F : form.Ghosts T) (shows : T → X → Type 0) (octets : List ℕ) (now : ReaderState) (kept : List X) : Type 0 where
@@ -14,12 +15,6 @@ pub record KeptSoFar {T X : Type 0} (F : form.Ghosts T) (shows : T → X → Typ
   pub show : ShowEach shows read.items kept
 
 module _ {T X : Type 0} (F : form.Ghosts T) (shows : T → X → Type 0) where
-  show_more : (vs : List T) (xs : List X) (v : T) (x : X) → ShowEach shows vs xs → shows v x → ShowEach shows (vs ++ v ∷ []) (xs ++ x ∷ [])
-  show_more [] [] v x each one = (one, tt)
-  show_more [] (y ∷ ys) v x each one = absurd each
-  show_more (w ∷ ws) [] v x each one = absurd each
-  show_more (w ∷ ws) (y ∷ ys) v x each one = (each.0, show_more ws ys v x each.1 one)
-
   pub none_kept : (octets : List ℕ) (now : ReaderState) (kept : List X) → now ≡ new_reader octets Der → kept ≡ [] → KeptSoFar F shows octets now kept
   none_kept octets now kept new none =
       subst (KeptSoFar F shows octets now) (sym none) (record { count = 0; read = none_counted F octets now new; show = tt })
@@ -30,7 +25,7 @@ module _ {T X : Type 0} (F : form.Ghosts T) (shows : T → X → Type 0) where
         subst (KeptSoFar F shows octets new) (sym is) (record {
           count = so_far.count + 1;
           read = one_more_counted so_far.read nonempty some told;
-          show = show_more so_far.read.items kept v x so_far.show one;
+          show = show_more shows so_far.read.items kept v x so_far.show one;
         })
 
     pub all_kept : IsReaderState now → rest now ≡ [] → AreShown F shows octets kept

@@ -1,6 +1,17 @@
+pub mod Added
+pub mod Alike
 pub mod Authority
+pub mod Chains
 pub mod KeepingItems
 pub mod Least
+pub mod Links
+pub mod Listed
+pub mod NumberOrder
+pub mod OcspAnswers
+pub mod PolicyOctets
 pub mod Reading
+pub mod Searching
+pub mod Trying
+pub mod ShowingEach
 pub mod Values
 pub mod Walk

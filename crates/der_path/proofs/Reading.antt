@@ -1,5 +1,5 @@
 -- Facts that are read one certificate after another.
-use Rattle.std.proofs.Common.{◌≡◌, true, ℕ, zero, ◌+◌, List, [], ◌∷◌, ◌++◌, length, Result, Ok, Err, refl, sym, ap, ◌∙◌, subst, append_assoc, arith, inl, inr}
+use Rattle.std.proofs.Common.{◌≡◌, true, ℕ, zero, ◌+◌, List, [], ◌∷◌, ◌++◌, length, None, Result, Ok, Err, refl, sym, ap, ◌∙◌, subst, append_assoc, arith, inl, inr}
 use Rattle.std.proofs.lemmas.List.{append-nil, length-append}
 use Rattle.std.specs.Prelude.{IsErrAnd, Vec}
 use Rattle.std.specs.declared.alloc.Global.{Global}
@@ -21,7 +21,7 @@ use Rattle.der_path.specs.declared.path.PathError.{PathError}
 use Rattle.der_path.specs.declared.path.PathError.TheVariants as error
 use Rattle.der_path.specs.declared.policy.Policy.{Policy}
 use Rattle.der_path.specs.Both.{BothAre}
-use Rattle.der_path.specs.Facts.{Reads, ShowsFacts, ShowsNames, ShowsParts, ShowsPolicies}
+use Rattle.der_path.specs.Facts.{KeepsNames, Reads, ShowsFacts, ShowsNames, ShowsParts, ShowsPolicies}
 use Rattle.der_path.specs.Paths.{answer, Answers, AnswersChain, EachListed, HasNoFacts, no_facts_at, ReadsEach, ShowsEach}
 use Rattle.der_path.specs.Policies.{is_any}
 
@@ -143,17 +143,19 @@ all_read chain lists found at left none so =
     (subst (λ l. ShowsEach so.done l found) (sym (so.lists_are ∙ ap (λ l. so.done_lists ++ l) lists_left ∙ append-nil so.done_lists)) so.shows)
 
 -- the answer, from the facts
-pub answered : (anchor : RdnSequence) (chain : List Certificate) (lists : List (List Extension)) (i : Inputs) (parts : List Part) (facts : List Facts) (any : Policy) (result : Result (Vec Policy Global) PathError) → ShowsParts anchor parts → ShowsEach chain lists facts → is_any any ≡ true → Answers (answer any parts facts i) result → AnswersChain anchor chain lists i result
-answered anchor chain lists i parts facts any (Ok policies) p f a r = record { parts = parts; are_parts = p; facts = facts; are_facts = f; any = any; is_any = a; answers = r }
-answered anchor chain lists i parts facts any (Err error.Memory) p f a r = tt
-answered anchor chain lists i parts facts any (Err error.Empty) p f a r = record { parts = parts; are_parts = p; facts = facts; are_facts = f; any = any; is_any = a; answers = r }
-answered anchor chain lists i parts facts any (Err (error.Unread at)) p f a r = absurd r
-answered anchor chain lists i parts facts any (Err (error.Refused at x)) p f a r = record { parts = parts; are_parts = p; facts = facts; are_facts = f; any = any; is_any = a; answers = r }
+pub answered : (anchor : RdnSequence) (chain : List Certificate) (lists : List (List Extension)) (i : Inputs) (parts : List Part) (initial : NameFacts) (facts : List Facts) (any : Policy) (result : Result (Vec Policy Global) PathError) → ShowsParts anchor parts → KeepsNames None i.constraints initial → ShowsEach chain lists facts → is_any any ≡ true → Answers (answer any parts initial facts i) result → AnswersChain anchor chain lists i result
+answered anchor chain lists i parts initial facts any (Ok policies) p n f a r = record { parts = parts; are_parts = p; initial = initial; is_initial = n; facts = facts; are_facts = f; any = any; is_any = a; answers = r }
+answered anchor chain lists i parts initial facts any (Err error.Memory) p n f a r = tt
+answered anchor chain lists i parts initial facts any (Err error.Empty) p n f a r = record { parts = parts; are_parts = p; initial = initial; is_initial = n; facts = facts; are_facts = f; any = any; is_any = a; answers = r }
+answered anchor chain lists i parts initial facts any (Err (error.Unread at)) p n f a r = absurd r
+answered anchor chain lists i parts initial facts any (Err (error.NotRead at e)) p n f a r = absurd r
+answered anchor chain lists i parts initial facts any (Err (error.Refused at x)) p n f a r = record { parts = parts; are_parts = p; initial = initial; is_initial = n; facts = facts; are_facts = f; any = any; is_any = a; answers = r }
 
 -- no answer, since there are no facts
 pub unread : (anchor : RdnSequence) (chain : List Certificate) (lists : List (List Extension)) (i : Inputs) (e : PathError) → ReadsEach chain lists (Err e) → AnswersChain anchor chain lists i (Err e)
 unread anchor chain lists i error.Memory r = tt
 unread anchor chain lists i error.Empty r = absurd r
+unread anchor chain lists i (error.NotRead at e) r = absurd r
 unread anchor chain lists i (error.Unread at) r = r
 unread anchor chain lists i (error.Refused at x) r = absurd r
 

@@ -9,6 +9,7 @@ use Rattle.der_pkix.specs.declared.name.attribute_type_and_value.AttributeTypeAn
 use Rattle.der_pkix.specs.Name.AttributeTypeAndValue as attribute
 use Rattle.der_verify.specs.Time.{is_valid_at}
 use Rattle.der_path.specs.declared.facts.Facts.{Facts}
+use Rattle.der_path.specs.declared.facts.NameFacts.{NameFacts}
 use Rattle.der_path.specs.declared.names.Part.{Part}
 use Rattle.der_path.specs.declared.names.PathName.{PathName}
 use Rattle.der_path.specs.declared.names.Subtree.{Subtree}
@@ -72,22 +73,28 @@ abbrev pub excluded_if : Option (Vec Subtree Global) → Facts → Bool
 excluded_if None f = false
 excluded_if (Some subtrees) f = excluded_by subtrees.items f
 
--- 6.1.3 (b) with 6.1.4 (g)(1): the intersection of the permitted subtrees of the certificates before has the names that each of them permits
-abbrev pub is_permitted : List Facts → Facts → Bool
-is_permitted before f = list_all (λ (g : Facts). permitted_if g.names.permitted f) before
+-- 6.1.3 (b) with 6.1.4 (g)(1): the intersection of the initial permitted subtrees and those of the certificates before has the names that each of them permits
+abbrev pub each_permits : List Facts → Facts → Bool
+each_permits before f = list_all (λ (g : Facts). permitted_if g.names.permitted f) before
+
+abbrev pub is_permitted : NameFacts → List Facts → Facts → Bool
+is_permitted initial before f = permitted_if initial.permitted f && each_permits before f
 
 -- 6.1.3 (c) with 6.1.4 (g)(2): the union of the excluded subtrees
-abbrev pub is_excluded : List Facts → Facts → Bool
-is_excluded before f = list_any (λ (g : Facts). excluded_if g.names.excluded f) before
+abbrev pub one_excludes : List Facts → Facts → Bool
+one_excludes before f = list_any (λ (g : Facts). excluded_if g.names.excluded f) before
+
+abbrev pub is_excluded : NameFacts → List Facts → Facts → Bool
+is_excluded initial before f = excluded_if initial.excluded f || one_excludes before f
 
 -- 6.1.3 (b), (c): "If certificate i is self-issued and it is not the final certificate in the path, skip this step"
-abbrev pub names_fault : List Facts → Facts → Option Step
-names_fault before f = if not (is_permitted before f) then Some step.Permitted else (if is_excluded before f then Some step.Excluded else None)
+abbrev pub names_fault : NameFacts → List Facts → Facts → Option Step
+names_fault initial before f = if not (is_permitted initial before f) then Some step.Permitted else (if is_excluded initial before f then Some step.Excluded else None)
 
 -- 6.1.3 (a)(2), (a)(4), (b), (c)
-abbrev pub basic_fault : List Facts → List Part → Facts → ℕ → Bool → Option Step
-basic_fault before issuer f moment is_last =
+abbrev pub basic_fault : NameFacts → List Facts → List Part → Facts → ℕ → Bool → Option Step
+basic_fault initial before issuer f moment is_last =
     if not (is_valid_at f.validity moment) then Some step.Validity
     else (if not (same_names f.issuer.items issuer) then Some step.Issuer
     else (if not is_last && is_self_issued f then None
-    else names_fault before f))
+    else names_fault initial before f))

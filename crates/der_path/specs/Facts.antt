@@ -5,6 +5,7 @@ use Rattle.std.specs.Cmp.Lexicographic.{pointwise}
 use Rattle.std.specs.List.{list_any}
 use Rattle.der_tlv.specs.declared.encoding_rules.EncodingRules.TheVariants.{Der}
 use Rattle.der_elem.specs.declared.form.Form as form
+use Rattle.der_nest.specs.SequenceRef as sequence
 use Rattle.der_opaque.specs.ObjectIdentifierRef as identifier
 use Rattle.der_opaque.specs.OctetStringRef as string
 use Rattle.der_ascii.specs.CharacterStringRef as text
@@ -95,12 +96,12 @@ abbrev pub ShowsName : GeneralName → PathName → Type 0
 ShowsName (of.OtherName v) p = HasOctets 0 [] p
 ShowsName (of.Rfc822Name v) p = HasOctets 1 (text.octets_of v.value) p
 ShowsName (of.DnsName v) p = HasOctets 2 (text.octets_of v.value) p
-ShowsName (of.X400Address v) p = HasOctets 3 [] p
+ShowsName (of.X400Address v) p = HasOctets 3 (sequence.octets_of v.value) p
 ShowsName (of.DirectoryName v) p = IsDirectory v.fields.first p
-ShowsName (of.EdiPartyName v) p = HasOctets 5 [] p
+ShowsName (of.EdiPartyName v) p = HasOctets 5 (sequence.octets_of v.value) p
 ShowsName (of.UniformResourceIdentifier v) p = HasOctets 6 (text.octets_of v.value) p
 ShowsName (of.IpAddress v) p = HasOctets 7 (string.octets_of v.value) p
-ShowsName (of.RegisteredId v) p = HasOctets 8 [] p
+ShowsName (of.RegisteredId v) p = HasOctets 8 (identifier.octets_of v.value) p
 
 -- a GeneralSubtree
 pub record ShowsSubtree (v : GeneralSubtree) (s : Subtree) : Type 0 where

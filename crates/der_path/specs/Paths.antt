@@ -1,4 +1,4 @@
--- Certification path validation (RFC 5280 section 6.1), with the policies of RFC 9618. Signatures (6.1.3 (a)(1)) and revocation ((a)(3)) are the caller's.
+-- Certification path validation (RFC 5280 section 6.1), with the policies of RFC 9618. Keys and signatures (6.1.3 (a)(1)) stand in Keys.antt, and revocation ((a)(3)) is the caller's.
 use Rattle.std.specs.Prelude.{◌≡◌, ℕ, zero, suc, ◌==◌, ◌+◌, nat_lt, List, [], ◌∷◌, length, take, Bool, true, false, not, ◌&&◌, ◌||◌, if◌then◌else◌, Option, Some, None, Result, Ok, Err, Vec}
 use Rattle.std.specs.declared.alloc.Global.{Global}
 use Rattle.std.specs.List.{list_any}
@@ -12,6 +12,7 @@ use Rattle.der_verify.specs.Shown.{ShowEach}
 use Rattle.der_path.specs.contracts.meanings.MeaningsMeantExtension.TheImpl as extension_form
 use Rattle.der_path.specs.declared.counters.Counters.{Counters}
 use Rattle.der_path.specs.declared.facts.Facts.{Facts}
+use Rattle.der_path.specs.declared.facts.NameFacts.{NameFacts}
 use Rattle.der_path.specs.declared.facts.NoFacts.{NoFacts}
 use Rattle.der_path.specs.declared.facts.NoFacts.TheVariants as none
 use Rattle.der_path.specs.declared.names.Part.{Part}
@@ -27,7 +28,7 @@ use Rattle.der_path.specs.declared.step.Step.{Step}
 use Rattle.der_path.specs.declared.step.Step.TheVariants as step
 use Rattle.der_path.specs.Basic.{basic_fault, is_self_issued}
 use Rattle.der_path.specs.Counters.{after_certificate, explicit_at_last, first_counters}
-use Rattle.der_path.specs.Facts.{ShowsFacts, ShowsParts}
+use Rattle.der_path.specs.Facts.{KeepsNames, ShowsFacts, ShowsParts}
 use Rattle.der_path.specs.Graphs.{authority_of, first_graph, is_null, null_graph, process, process_mappings, seen_graph, user_constrained, SeenGraph}
 use Rattle.der_path.specs.Policies.{is_any}
 
@@ -91,9 +92,9 @@ prepared f depth c g = unless_stopped (policies_fault c.explicit_policy g) (unle
 })))
 
 -- 6.1.3 and 6.1.4 for a certificate after others that is not the last
-abbrev pub next_state : List Facts → List Part → Facts → ℕ → SeenState → Result SeenState Step
-next_state before issuer f moment s =
-    unless_stopped (basic_fault before issuer f moment false)
+abbrev pub next_state : NameFacts → List Facts → List Part → Facts → ℕ → SeenState → Result SeenState Step
+next_state initial before issuer f moment s =
+    unless_stopped (basic_fault initial before issuer f moment false)
     (prepared f (length before + 1) s.counters (processed_graph f.policies.policies (nat_lt 0 s.counters.inhibit_any_policy || is_self_issued f) (length before + 1) s.graph))
 
 -- 6.1.5 (f)
@@ -111,9 +112,9 @@ wrapped_up f depth c wanted g =
     (unless_stopped (last_fault f) (accepted (explicit_at_last c f.policies) (user_constrained (authority_of depth g) wanted)))
 
 -- 6.1.3 and 6.1.5 for the last certificate
-abbrev pub last_answer : List Facts → List Part → Facts → Inputs → SeenState → Result (List Policy) Step
-last_answer before issuer f i s =
-    unless_stopped (basic_fault before issuer f i.moment true)
+abbrev pub last_answer : NameFacts → List Facts → List Part → Facts → Inputs → SeenState → Result (List Policy) Step
+last_answer initial before issuer f i s =
+    unless_stopped (basic_fault initial before issuer f i.moment true)
     (wrapped_up f (length before + 1) s.counters i.policies.now (processed_graph f.policies.policies (nat_lt 0 s.counters.inhibit_any_policy) (length before + 1) s.graph))
 
 -- the answer for the certificate at an index
@@ -131,13 +132,14 @@ go_on at (Ok s) others = others s
 go_on at (Err x) others = Err (error.Refused at x)
 
 -- 6.1 from the certificate at an index on: user_constrained_policy_set (6.1.6), or the first certificate that a step refuses, and the first such step
-abbrev pub answer_from : Inputs → List Facts → ℕ → List Part → SeenState → List Facts → Result (List Policy) PathError
-answer_from i chain at issuer s [] = Err error.Empty
-answer_from i chain at issuer s (f ∷ []) = at_index at (last_answer (take at chain) issuer f i s)
-answer_from i chain at issuer s (f ∷ (g ∷ others)) = go_on at (next_state (take at chain) issuer f i.moment s) (λ s. answer_from i chain (at + 1) f.subject.items s (g ∷ others))
+abbrev pub answer_from : Inputs → NameFacts → List Facts → ℕ → List Part → SeenState → List Facts → Result (List Policy) PathError
+answer_from i initial chain at issuer s [] = Err error.Empty
+answer_from i initial chain at issuer s (f ∷ []) = at_index at (last_answer initial (take at chain) issuer f i s)
+answer_from i initial chain at issuer s (f ∷ (g ∷ others)) = go_on at (next_state initial (take at chain) issuer f i.moment s) (λ s. answer_from i initial chain (at + 1) f.subject.items s (g ∷ others))
 
-abbrev pub answer : Policy → List Part → List Facts → Inputs → Result (List Policy) PathError
-answer any anchor chain i = answer_from i chain 0 anchor (first_state any (length chain) i) chain
+-- 6.1 for the facts that are shown: of the anchor's name, of the initial constraints of names, and of the certificates
+abbrev pub answer : Policy → List Part → NameFacts → List Facts → Inputs → Result (List Policy) PathError
+answer any anchor initial chain i = answer_from i initial chain 0 anchor (first_state any (length chain) i) chain
 
 -- the extensions of each certificate
 abbrev pub EachListed : List Certificate → List (List Extension) → Type 0
@@ -164,6 +166,7 @@ ReadsEach chain lists (Ok facts) = ShowsEach chain lists facts.items
 ReadsEach chain lists (Err error.Memory) = Unit {0}
 ReadsEach chain lists (Err (error.Unread at)) = HasNoFacts at chain lists
 ReadsEach chain lists (Err error.Empty) = ⊥
+ReadsEach chain lists (Err (error.NotRead at e)) = ⊥
 ReadsEach chain lists (Err (error.Refused at x)) = ⊥
 
 -- the results of the steps, or memory ran out
@@ -181,6 +184,7 @@ abbrev pub Answers : Result (List Policy) PathError → Result (Vec Policy Globa
 Answers wanted (Ok policies) = wanted ≡ Ok policies.items
 Answers wanted (Err error.Memory) = Unit {0}
 Answers wanted (Err (error.Unread at)) = ⊥
+Answers wanted (Err (error.NotRead at e)) = ⊥
 Answers wanted (Err error.Empty) = wanted ≡ Err error.Empty
 Answers wanted (Err (error.Refused at x)) = wanted ≡ Err (error.Refused at x)
 
@@ -188,15 +192,18 @@ Answers wanted (Err (error.Refused at x)) = wanted ≡ Err (error.Refused at x)
 pub record IsAnswer (anchor : RdnSequence) (chain : List Certificate) (lists : List (List Extension)) (i : Inputs) (result : Result (Vec Policy Global) PathError) : Type 0 where
   pub parts : List Part
   pub are_parts : ShowsParts anchor parts
+  pub initial : NameFacts
+  pub is_initial : KeepsNames None i.constraints initial
   pub facts : List Facts
   pub are_facts : ShowsEach chain lists facts
   pub any : Policy
   pub is_any : is_any any ≡ true
-  pub answers : Answers (answer any parts facts i) result
+  pub answers : Answers (answer any parts initial facts i) result
 
 abbrev pub AnswersChain : RdnSequence → List Certificate → List (List Extension) → Inputs → Result (Vec Policy Global) PathError → Type 0
 AnswersChain anchor chain lists i (Ok policies) = IsAnswer anchor chain lists i (Ok policies)
 AnswersChain anchor chain lists i (Err error.Memory) = Unit {0}
 AnswersChain anchor chain lists i (Err (error.Unread at)) = HasNoFacts at chain lists
+AnswersChain anchor chain lists i (Err (error.NotRead at e)) = ⊥
 AnswersChain anchor chain lists i (Err error.Empty) = IsAnswer anchor chain lists i (Err error.Empty)
 AnswersChain anchor chain lists i (Err (error.Refused at x)) = IsAnswer anchor chain lists i (Err (error.Refused at x))

@@ -3,9 +3,9 @@
 ghost use Rattle.std.specs.Prelude.{◌≡◌};
 ghost use Rattle.std.specs.List.{list_all, list_any};
 ghost use Rattle.der_path.specs.Subtrees.{excludes_name, permits_name};
-ghost use Rattle.der_path.specs.Basic.{basic_fault, excluded_by, excluded_mail, excluded_mail_of, excluded_names, excluded_subject, excluded_value, is_excluded, is_mail, is_permitted, is_self_issued, permitted_by, permitted_mail, permitted_mail_of, permitted_names, permitted_subject, permitted_value};
+ghost use Rattle.der_path.specs.Basic.{basic_fault, each_permits, excluded_by, excluded_mail, excluded_mail_of, excluded_names, excluded_subject, excluded_value, is_excluded, is_mail, is_permitted, is_self_issued, one_excludes, permitted_by, permitted_mail, permitted_mail_of, permitted_names, permitted_subject, permitted_value};
 
-use crate::facts::Facts;
+use crate::facts::{Facts, NameFacts};
 use crate::names::{Named, Part, PathName, Subtree, excludes, permits, same_names};
 use crate::step::Step;
 use der_pkix::name::AttributeTypeAndValue;
@@ -21,13 +21,14 @@ pub(crate) fn is_self_issued(facts: &Facts<'_>) -> bool
 /// Returns the first of the steps 6.1.3 (a)(2), (a)(4), (b) and (c) that refuses a certificate
 /// after others.
 pub(crate) fn basic_fault<'a>(
+    initial: &NameFacts<'a>,
     before: &[Facts<'a>],
     issuer: &[Part<'a>],
     facts: &Facts<'a>,
     moment: u64,
     is_last: bool,
 ) -> Option<Step>
-    ensures { result ≡ basic_fault before.now issuer.now facts.now moment is_last }
+    ensures { result ≡ basic_fault initial.now before.now issuer.now facts.now moment is_last }
 {
     if !holds_at(facts.validity, moment) {
         Some(Step::Validity)
@@ -35,18 +36,25 @@ pub(crate) fn basic_fault<'a>(
         Some(Step::Issuer)
     } else if !is_last && is_self_issued(facts) {
         None
-    } else if !is_permitted(before, facts) {
+    } else if !is_permitted(initial, before, facts) {
         Some(Step::Permitted)
-    } else if is_excluded(before, facts) {
+    } else if is_excluded(initial, before, facts) {
         Some(Step::Excluded)
     } else {
         None
     }
 }
 
-/// Returns whether each name is permitted by each certificate before (6.1.3 (b)).
-fn is_permitted<'a>(before: &[Facts<'a>], facts: &Facts<'a>) -> bool
-    ensures { result ≡ is_permitted before.now facts.now }
+/// Returns whether each name is permitted at first and by each certificate before (6.1.3 (b)).
+fn is_permitted<'a>(initial: &NameFacts<'a>, before: &[Facts<'a>], facts: &Facts<'a>) -> bool
+    ensures { result ≡ is_permitted initial.now before.now facts.now }
+{
+    initial.permits(facts) && each_permits(before, facts)
+}
+
+/// Returns whether each name is permitted by each certificate before.
+fn each_permits<'a>(before: &[Facts<'a>], facts: &Facts<'a>) -> bool
+    ensures { result ≡ each_permits before.now facts.now }
 {
     before.iter().all(|other| match &other.names.permitted {
         Some(subtrees) => permitted_by(subtrees, facts),
@@ -54,14 +62,46 @@ fn is_permitted<'a>(before: &[Facts<'a>], facts: &Facts<'a>) -> bool
     })
 }
 
-/// Returns whether a name is excluded by a certificate before (6.1.3 (c)).
-fn is_excluded<'a>(before: &[Facts<'a>], facts: &Facts<'a>) -> bool
-    ensures { result ≡ is_excluded before.now facts.now }
+/// Returns whether a name is excluded at first or by a certificate before (6.1.3 (c)).
+fn is_excluded<'a>(initial: &NameFacts<'a>, before: &[Facts<'a>], facts: &Facts<'a>) -> bool
+    ensures { result ≡ is_excluded initial.now before.now facts.now }
+{
+    initial.excludes(facts) || one_excludes(before, facts)
+}
+
+/// Returns whether a name is excluded by a certificate before.
+fn one_excludes<'a>(before: &[Facts<'a>], facts: &Facts<'a>) -> bool
+    ensures { result ≡ one_excludes before.now facts.now }
 {
     before.iter().any(|other| match &other.names.excluded {
         Some(subtrees) => excluded_by(subtrees, facts),
         None => false,
     })
+}
+
+impl<'a> NameFacts<'a> {
+    ghost use Rattle.std.specs.Prelude.{◌≡◌};
+    ghost use Rattle.der_path.specs.Basic.{excluded_if, permitted_if};
+
+    /// Returns whether each name of a certificate is permitted, if there are permitted subtrees.
+    fn permits(&self, facts: &Facts<'a>) -> bool
+        ensures { result ≡ permitted_if self.now.permitted facts.now }
+    {
+        match &self.permitted {
+            Some(subtrees) => permitted_by(subtrees, facts),
+            None => true,
+        }
+    }
+
+    /// Returns whether a name of a certificate is excluded, if there are excluded subtrees.
+    fn excludes(&self, facts: &Facts<'a>) -> bool
+        ensures { result ≡ excluded_if self.now.excluded facts.now }
+    {
+        match &self.excluded {
+            Some(subtrees) => excluded_by(subtrees, facts),
+            None => false,
+        }
+    }
 }
 
 /// Returns whether each name of a certificate is permitted by these subtrees.

@@ -1,12 +1,14 @@
 //! What section 6.1 of RFC 5280 takes from a certificate, read into memory.
 
-ghost use Rattle.std.specs.Prelude.{◌≡◌, false, IfOk, List, option_copied};
+ghost use Rattle.std.specs.Prelude.{◌≡◌, false, IfOk, None, List, option_copied};
+ghost use Rattle.std.specs.List.{list_any};
 ghost use Rattle.der_pkix.specs.declared.certificate.extension.Extension.{Extension};
 ghost use Rattle.der_pkix.specs.Certificate.Certificate as certificate_fields;
 ghost use Rattle.der_pkix.specs.Certificate.TbsCertificate as tbs_fields;
-ghost use Rattle.der_verify.specs.Extensions.{with_identifier, FindsOne};
+ghost use Rattle.der_verify.specs.Extensions.{has_identifier, with_identifier};
 ghost use Rattle.der_verify.specs.Rfc5280.{AreListed};
-ghost use Rattle.der_path.specs.Facts.{excluded_in, explicit_in, has_unknown_critical, is_ca, is_processed, key_cert_sign, mapping_in, path_length, permitted_in, KeepsNames, KeepsPolicies, Reads, ShowsEachMapping, ShowsEachName, ShowsEachPolicy, ShowsEachSubtree, ShowsFacts, ShowsNames, ShowsOne, ShowsParts, ShowsPolicies, ShowsUses};
+ghost use Rattle.der_path.specs.Extensions.{only, only_extension, Alike};
+ghost use Rattle.der_path.specs.Facts.{excluded_in, explicit_in, has_unknown_critical, is_ca, is_processed, is_unknown_critical, key_cert_sign, mapping_in, path_length, permitted_in, KeepsNames, KeepsPolicies, Reads, ShowsEachMapping, ShowsEachName, ShowsEachPolicy, ShowsEachSubtree, ShowsFacts, ShowsNames, ShowsOne, ShowsParts, ShowsPolicies, ShowsUses};
 
 use crate::keep::{Keeper, both, keep_items};
 use crate::names::{Part, PathName, Subtree};
@@ -23,12 +25,10 @@ use der_extensions::extension::{
     GeneralSubtrees, KEY_USAGE_KEY_CERT_SIGN, KeyUsage, NameConstraints, PolicyConstraints,
     PolicyInformation, PolicyMapping, PolicyMappings,
 };
-use der_lists::ItemTest;
 use der_numbers::UintRef;
-use der_pkix::certificate::{Certificate, Extension, TbsCertificate, Validity};
+use der_pkix::certificate::{Certificate, Extension, Extensions, TbsCertificate, Validity};
 use der_pkix::name::Name;
-use der_tlv::{Error, SliceReader};
-use der_verify::find_extension;
+use der_tlv::SliceReader;
 use std::alloc::{AllocError, Global};
 
 /// What section 6.1 takes from a certificate.
@@ -106,9 +106,26 @@ pub(crate) fn facts_of<'a>(
     ensures { (listed : List Extension) → AreListed ⟦<Extension<'a> as Form>⟧ (tbs_fields.extensions (certificate_fields.tbs_certificate certificate.now)) listed
         → Reads (ShowsFacts certificate.now listed) result }
 {
+    match extensions_of(alloc, certificate.tbs_certificate()) {
+        Ok(extensions) => facts_with(alloc, certificate, &extensions),
+        Err(_error) => Err(NoFacts::Memory),
+    }
+}
+
+/// Reads the facts of a certificate with these extensions.
+fn facts_with<'a>(
+    alloc: Global,
+    certificate: &Certificate<'a>,
+    extensions: &[Extension<'a>],
+) -> Result<Facts<'a>, NoFacts>
+    ensures { (listed : List Extension) → Alike listed extensions.now → Reads (ShowsFacts certificate.now listed) result }
+{
     let signed = certificate.tbs_certificate();
-    let uses = uses_of(alloc, signed)?;
-    let constraints = both(name_facts_of(alloc, signed), policy_facts_of(alloc, signed));
+    let uses = uses_of(alloc, extensions)?;
+    let constraints = both(
+        name_facts_of(alloc, extensions),
+        policy_facts_of(alloc, extensions),
+    );
     let names = both(
         read_parts(alloc, signed.issuer()),
         read_parts(alloc, signed.subject()),
@@ -122,14 +139,14 @@ pub(crate) fn facts_of<'a>(
             uses,
             names,
             policies,
-            has_unknown_critical: has_unknown_critical(alloc, signed),
+            has_unknown_critical: has_unknown_critical(extensions),
         }),
         Err(error) => Err(error),
     }
 }
 
 /// Reads the parts of a name.
-fn read_parts<'a>(alloc: Global, name: &Name<'a>) -> Result<Vec<Part<'a>>, NoFacts>
+pub(crate) fn read_parts<'a>(alloc: Global, name: &Name<'a>) -> Result<Vec<Part<'a>>, NoFacts>
     ensures { Reads (λ parts. ShowsParts name.now parts.items) result }
 {
     match parts_of(alloc, name) {
@@ -139,16 +156,29 @@ fn read_parts<'a>(alloc: Global, name: &Name<'a>) -> Result<Vec<Part<'a>>, NoFac
 }
 
 /// Reads what the key of a certificate may be used for.
-fn uses_of<'a>(alloc: Global, certificate: &TbsCertificate<'a>) -> Result<Uses<'a>, NoFacts>
+pub(crate) fn uses_in<'a>(
+    alloc: Global,
+    certificate: &TbsCertificate<'a>,
+) -> Result<Uses<'a>, NoFacts>
     ensures { (listed : List Extension) → AreListed ⟦<Extension<'a> as Form>⟧ (tbs_fields.extensions certificate.now) listed
         → Reads (ShowsUses listed) result }
 {
+    match extensions_of(alloc, certificate) {
+        Ok(extensions) => uses_of(alloc, &extensions),
+        Err(_error) => Err(NoFacts::Memory),
+    }
+}
+
+/// Reads what the key of a certificate with these extensions may be used for.
+fn uses_of<'a>(alloc: Global, extensions: &[Extension<'a>]) -> Result<Uses<'a>, NoFacts>
+    ensures { (listed : List Extension) → Alike listed extensions.now → Reads (ShowsUses listed) result }
+{
     let constraints = value_of::<BasicConstraints<'a>>(
         alloc,
-        certificate,
+        extensions,
         &ID_CE_BASIC_CONSTRAINTS,
     )?;
-    let usage = value_of::<KeyUsage<'a>>(alloc, certificate, &ID_CE_KEY_USAGE)?;
+    let usage = value_of::<KeyUsage<'a>>(alloc, extensions, &ID_CE_KEY_USAGE)?;
     Ok(Uses {
         is_ca: is_ca(constraints),
         path_length: path_length(constraints),
@@ -187,15 +217,11 @@ fn key_cert_sign(usage: Option<KeyUsage<'_>>) -> Option<bool>
 }
 
 /// Reads the alternative names and the name constraints of a certificate.
-fn name_facts_of<'a>(
-    alloc: Global,
-    certificate: &TbsCertificate<'a>,
-) -> Result<NameFacts<'a>, NoFacts>
-    ensures { (listed : List Extension) → AreListed ⟦<Extension<'a> as Form>⟧ (tbs_fields.extensions certificate.now) listed
-        → Reads (ShowsNames listed) result }
+fn name_facts_of<'a>(alloc: Global, extensions: &[Extension<'a>]) -> Result<NameFacts<'a>, NoFacts>
+    ensures { (listed : List Extension) → Alike listed extensions.now → Reads (ShowsNames listed) result }
 {
-    let names = value_of::<GeneralNames<'a>>(alloc, certificate, &ID_CE_SUBJECT_ALT_NAME)?;
-    let constraints = value_of::<NameConstraints<'a>>(alloc, certificate, &ID_CE_NAME_CONSTRAINTS)?;
+    let names = value_of::<GeneralNames<'a>>(alloc, extensions, &ID_CE_SUBJECT_ALT_NAME)?;
+    let constraints = value_of::<NameConstraints<'a>>(alloc, extensions, &ID_CE_NAME_CONSTRAINTS)?;
     match kept_names(alloc, names, constraints) {
         Ok(facts) => Ok(facts),
         Err(_error) => Err(NoFacts::Memory),
@@ -216,6 +242,27 @@ fn kept_names<'a>(
     match both(names, both(permitted, excluded)) {
         Ok((alternative_names, (permitted, excluded))) => Ok(NameFacts {
             alternative_names,
+            permitted,
+            excluded,
+        }),
+        Err(error) => Err(error),
+    }
+}
+
+/// Reads the initial constraints of names, as a certificate without alternative names would have
+/// them.
+pub(crate) fn initial_names<'a>(
+    alloc: Global,
+    constraints: &Option<NameConstraints<'a>>,
+) -> Result<NameFacts<'a>, AllocError>
+    ensures { IfOk result (KeepsNames None constraints.now) }
+{
+    match both(
+        permitted_in(alloc, constraints),
+        excluded_in(alloc, constraints),
+    ) {
+        Ok((permitted, excluded)) => Ok(NameFacts {
+            alternative_names: None,
             permitted,
             excluded,
         }),
@@ -250,7 +297,7 @@ fn excluded_in<'a>(
 }
 
 /// Reads names, if they are there.
-fn names_in<'a>(
+pub(crate) fn names_in<'a>(
     alloc: Global,
     names: Option<GeneralNames<'a>>,
 ) -> Result<Option<Vec<PathName<'a>>>, AllocError>
@@ -284,27 +331,22 @@ fn subtrees_in<'a>(
 /// Reads the policies of a certificate, and the constraints of policies.
 fn policy_facts_of<'a>(
     alloc: Global,
-    certificate: &TbsCertificate<'a>,
+    extensions: &[Extension<'a>],
 ) -> Result<PolicyFacts<'a>, NoFacts>
-    ensures { (listed : List Extension) → AreListed ⟦<Extension<'a> as Form>⟧ (tbs_fields.extensions certificate.now) listed
-        → Reads (ShowsPolicies listed) result }
+    ensures { (listed : List Extension) → Alike listed extensions.now → Reads (ShowsPolicies listed) result }
 {
     let policies = value_of::<CertificatePolicies<'a>>(
         alloc,
-        certificate,
+        extensions,
         &ID_CE_CERTIFICATE_POLICIES,
     )?;
-    let mappings = value_of::<PolicyMappings<'a>>(alloc, certificate, &ID_CE_POLICY_MAPPINGS)?;
+    let mappings = value_of::<PolicyMappings<'a>>(alloc, extensions, &ID_CE_POLICY_MAPPINGS)?;
     let constraints = value_of::<PolicyConstraints<'a>>(
         alloc,
-        certificate,
+        extensions,
         &ID_CE_POLICY_CONSTRAINTS,
     )?;
-    let inhibit_any_policy = value_of::<UintRef<'a>>(
-        alloc,
-        certificate,
-        &ID_CE_INHIBIT_ANY_POLICY,
-    )?;
+    let inhibit_any_policy = value_of::<UintRef<'a>>(alloc, extensions, &ID_CE_INHIBIT_ANY_POLICY)?;
     match kept_policies(alloc, policies, mappings, constraints, inhibit_any_policy) {
         Ok(facts) => Ok(facts),
         Err(_error) => Err(NoFacts::Memory),
@@ -423,17 +465,59 @@ impl<'a> Keeper<PolicyMapping<'a>> for KeepMapping {
     }
 }
 
-/// Reads the value of the extension with this identifier, if there is one.
-fn value_of<'a, T: Decode<'a, SliceReader<'a>>>(
+/// Reads the extensions of a certificate.
+fn extensions_of<'a>(
     alloc: Global,
     certificate: &TbsCertificate<'a>,
+) -> Result<Vec<Extension<'a>>, AllocError>
+    ensures { (listed : List Extension) → AreListed ⟦<Extension<'a> as Form>⟧ (tbs_fields.extensions certificate.now) listed
+        → IfOk result (λ kept. Alike listed kept.items) }
+{
+    extensions_in(alloc, certificate.extensions())
+}
+
+/// Reads extensions, if they are there.
+pub(crate) fn extensions_in<'a>(
+    alloc: Global,
+    extensions: Option<&Extensions<'a>>,
+) -> Result<Vec<Extension<'a>>, AllocError>
+    ensures { (listed : List Extension) → AreListed ⟦<Extension<'a> as Form>⟧ (option_copied extensions.entry) listed
+        → IfOk result (λ kept. Alike listed kept.items) }
+{
+    match extensions {
+        Some(extensions) => keep_items::<Extension<'a>, KeepExtension>(
+            alloc,
+            extensions.items().as_bytes(),
+        ),
+        None => Ok(Vec::new(alloc)),
+    }
+}
+
+/// Keeps an extension.
+struct KeepExtension;
+
+impl<'a> Keeper<Extension<'a>> for KeepExtension {
+    ghost use Rattle.std.specs.Prelude.{◌≡◌};
+
+    type Kept = Extension<'a>;
+
+    ghost shows = { λ v x. x ≡ v };
+
+    fn keep(_alloc: Global, item: &Extension<'a>) -> Result<Extension<'a>, AllocError> {
+        Ok(*item)
+    }
+}
+
+/// Reads the value of the extension with this identifier, if there is one.
+pub(crate) fn value_of<'a, T: Decode<'a, SliceReader<'a>>>(
+    alloc: Global,
+    extensions: &[Extension<'a>],
     identifier: &[u8],
 ) -> Result<Option<T>, NoFacts>
-    ensures { T.Form.TAKES_MEMORY ≡ false
-        → (listed : List Extension) → AreListed ⟦<Extension<'a> as Form>⟧ (tbs_fields.extensions certificate.now) listed
+    ensures { T.Form.TAKES_MEMORY ≡ false → (listed : List Extension) → Alike listed extensions.now
         → Reads (ShowsOne T.Form (with_identifier identifier.now listed)) result }
 {
-    let Ok(found) = only_extension(alloc, certificate, identifier) else {
+    let Ok(found) = only_extension(extensions, identifier) else {
         return Err(NoFacts::Unread);
     };
     let Some(extension) = found else {
@@ -450,44 +534,84 @@ fn value_of<'a, T: Decode<'a, SliceReader<'a>>>(
 /// # Errors
 /// If two or more have it.
 fn only_extension<'a>(
+    extensions: &[Extension<'a>],
+    identifier: &[u8],
+) -> Result<Option<Extension<'a>>, NoFacts>
+    ensures { result ≡ only_extension identifier.now extensions.now }
+{
+    let mut left = extensions;
+    'each: while let [extension, others @ ..] = left {
+        if has_identifier(extension, identifier) {
+            return only(*extension, one_has_identifier(others, identifier));
+        }
+        left = others;
+    }
+    Ok(None)
+}
+
+/// Returns an extension, unless its identifier is repeated.
+fn only<'a>(extension: Extension<'a>, is_repeated: bool) -> Result<Option<Extension<'a>>, NoFacts>
+    ensures { result ≡ only extension.entry is_repeated }
+{
+    if is_repeated {
+        Err(NoFacts::Unread)
+    } else {
+        Ok(Some(extension))
+    }
+}
+
+/// Returns whether an extension of a list has this identifier.
+fn one_has_identifier(extensions: &[Extension<'_>], identifier: &[u8]) -> bool
+    ensures { result ≡ list_any (has_identifier identifier.now) extensions.now }
+{
+    extensions
+        .iter()
+        .any(|extension| has_identifier(extension, identifier))
+}
+
+/// Returns whether an extension has this identifier.
+fn has_identifier(extension: &Extension<'_>, identifier: &[u8]) -> bool
+    ensures { result ≡ has_identifier identifier.now extension.now }
+{
+    extension.extn_id().as_bytes() == identifier
+}
+
+/// Returns whether a certificate has an extension that is critical, and that section 6.1 does not
+/// process.
+pub(crate) fn has_unknown_critical_in<'a>(
     alloc: Global,
     certificate: &TbsCertificate<'a>,
-    identifier: &[u8],
-) -> Result<Option<Extension<'a>>, Error>
+) -> Result<bool, AllocError>
     ensures { (listed : List Extension) → AreListed ⟦<Extension<'a> as Form>⟧ (tbs_fields.extensions certificate.now) listed
-        → FindsOne ⟦<Extension<'a> as Form>⟧ (with_identifier identifier.now listed) result }
+        → IfOk result (λ unknown. unknown ≡ has_unknown_critical listed) }
 {
-    match certificate.extensions() {
-        Some(extensions) => find_extension(alloc, extensions, identifier),
-        None => Ok(None),
+    match extensions_of(alloc, certificate) {
+        Ok(extensions) => Ok(has_unknown_critical(&extensions)),
+        Err(error) => Err(error),
     }
 }
 
 /// Returns whether an extension is critical that section 6.1 does not process.
-fn has_unknown_critical<'a>(alloc: Global, certificate: &TbsCertificate<'a>) -> bool
-    ensures { (listed : List Extension) → AreListed ⟦<Extension<'a> as Form>⟧ (tbs_fields.extensions certificate.now) listed
-        → result ≡ has_unknown_critical listed }
+fn has_unknown_critical(extensions: &[Extension<'_>]) -> bool
+    ensures { (listed : List Extension) → Alike listed extensions.now → result ≡ has_unknown_critical listed }
 {
-    match certificate.extensions() {
-        Some(extensions) => extensions.items().any(alloc, &IsUnknownCritical),
-        None => false,
-    }
+    one_is_unknown_critical(extensions)
 }
 
-/// The test that an extension is critical, and not one that section 6.1 processes.
-struct IsUnknownCritical;
+/// Returns whether one of these extensions is critical, and not one that section 6.1 processes.
+fn one_is_unknown_critical(extensions: &[Extension<'_>]) -> bool
+    ensures { result ≡ has_unknown_critical extensions.now }
+{
+    extensions
+        .iter()
+        .any(|extension| is_unknown_critical(extension))
+}
 
-impl<'a> ItemTest<Extension<'a>> for IsUnknownCritical {
-    ghost use Rattle.der_path.specs.Facts.{is_unknown_critical};
-    ghost use Rattle.der_path.specs.FactsLaws.{alike_unknown};
-
-    ghost passes = { λ p. is_unknown_critical };
-
-    fn passes(&self, item: &Extension<'a>) -> bool {
-        item.critical() && !is_processed(item.extn_id().as_bytes())
-    }
-
-    ghost respects = { λ p. alike_unknown };
+/// Returns whether an extension is critical, and not one that section 6.1 processes.
+fn is_unknown_critical(extension: &Extension<'_>) -> bool
+    ensures { result ≡ is_unknown_critical extension.now }
+{
+    extension.critical() && !is_processed(extension.extn_id().as_bytes())
 }
 
 /// Returns whether section 6.1 processes an extension: one that section 4.2 requires to be

@@ -3,11 +3,16 @@
 use der_bits::NamedBitsRef;
 use der_elem::Form;
 use der_extensions::extension::{
-    BasicConstraints, CertificatePolicies, GeneralName, GeneralNames, GeneralSubtree,
-    NameConstraints, PolicyConstraints, PolicyInformation, PolicyMapping, PolicyMappings,
+    BasicConstraints, CertificatePolicies, CrlDistributionPoints, CrlReason, DistributionPoint,
+    ExtKeyUsageSyntax, GeneralName, GeneralNames, GeneralSubtree, IssuingDistributionPoint,
+    KeyPurposeId, NameConstraints, PolicyConstraints, PolicyInformation, PolicyMapping,
+    PolicyMappings,
 };
-use der_numbers::UintRef;
-use der_pkix::certificate::Extension;
+use der_nest::SequenceRef;
+use der_numbers::{Enumerated, UintRef};
+use der_ocsp::ocsp::SingleResponse;
+use der_pkix::certificate::{Certificate, Extension, Extensions, TbsCertificate};
+use der_pkix::crl::RevokedCertificate;
 use der_pkix::name::{AttributeTypeAndValue, RelativeDistinguishedName};
 
 /// The meaning of a type.
@@ -20,8 +25,20 @@ pub(crate) trait Meant<T> {
 /// The meanings.
 struct Meanings;
 
+impl<'a> Meant<Certificate<'a>> for Meanings {
+    ghost FORM = { ⟦<Certificate<'a> as Form>⟧ };
+}
+
+impl<'a> Meant<TbsCertificate<'a>> for Meanings {
+    ghost FORM = { ⟦<TbsCertificate<'a> as Form>⟧ };
+}
+
 impl<'a> Meant<Extension<'a>> for Meanings {
     ghost FORM = { ⟦<Extension<'a> as Form>⟧ };
+}
+
+impl<'a> Meant<Extensions<'a>> for Meanings {
+    ghost FORM = { ⟦<Extensions<'a> as Form>⟧ };
 }
 
 impl<'a> Meant<AttributeTypeAndValue<'a>> for Meanings {
@@ -78,4 +95,40 @@ impl<'a> Meant<NamedBitsRef<'a>> for Meanings {
 
 impl<'a> Meant<UintRef<'a>> for Meanings {
     ghost FORM = { ⟦<UintRef<'a> as Form>⟧ };
+}
+
+impl Meant<Enumerated<CrlReason>> for Meanings {
+    ghost FORM = { ⟦<Enumerated<CrlReason> as Form>⟧ };
+}
+
+impl<'a> Meant<IssuingDistributionPoint<'a>> for Meanings {
+    ghost FORM = { ⟦<IssuingDistributionPoint<'a> as Form>⟧ };
+}
+
+impl<'a> Meant<CrlDistributionPoints<'a>> for Meanings {
+    ghost FORM = { ⟦<CrlDistributionPoints<'a> as Form>⟧ };
+}
+
+impl<'a> Meant<DistributionPoint<'a>> for Meanings {
+    ghost FORM = { ⟦<DistributionPoint<'a> as Form>⟧ };
+}
+
+impl<'a> Meant<SequenceRef<'a>> for Meanings {
+    ghost FORM = { ⟦<SequenceRef<'a> as Form>⟧ };
+}
+
+impl<'a> Meant<RevokedCertificate<'a>> for Meanings {
+    ghost FORM = { ⟦<RevokedCertificate<'a> as Form>⟧ };
+}
+
+impl<'a> Meant<ExtKeyUsageSyntax<'a>> for Meanings {
+    ghost FORM = { ⟦<ExtKeyUsageSyntax<'a> as Form>⟧ };
+}
+
+impl<'a> Meant<KeyPurposeId<'a>> for Meanings {
+    ghost FORM = { ⟦<KeyPurposeId<'a> as Form>⟧ };
+}
+
+impl<'a> Meant<SingleResponse<'a>> for Meanings {
+    ghost FORM = { ⟦<SingleResponse<'a> as Form>⟧ };
 }

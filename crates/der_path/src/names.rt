@@ -25,8 +25,7 @@ pub struct Part<'a> {
 pub enum PathName<'a> {
     /// A directoryName, by its parts.
     Directory(Vec<Part<'a>>),
-    /// The number of the tag of another name, and its contents octets: none for the kinds that
-    /// section 4.2.1.10 has no constraints for.
+    /// The number of the tag of another name, and its contents octets: none for an otherName.
     Octets(u8, &'a [u8]),
 }
 
@@ -187,7 +186,7 @@ impl<'a> Part<'a> {
     ghost use Rattle.der_path.specs.Subtrees.{same_parts};
 
     /// Returns whether two parts match (RFC 5280 section 7.1).
-    fn matches(&self, other: &Part<'_>) -> bool
+    pub(crate) fn matches(&self, other: &Part<'_>) -> bool
         ensures { result ≡ same_parts self.now other.now }
     {
         self.attributes.len() == other.attributes.len()

@@ -4,20 +4,24 @@ ghost use Rattle.std.specs.Prelude.{◌≡◌, List, Result};
 ghost use Rattle.der_pkix.specs.declared.certificate.extension.Extension.{Extension};
 ghost use Rattle.der_path.specs.declared.policy.Policy.{Policy};
 ghost use Rattle.der_path.specs.declared.step.Step.{Step};
+ghost use Rattle.der_path.specs.Chains.{ChecksPath};
 ghost use Rattle.der_path.specs.Paths.{answer, at_index, fault_at, no_facts_at, Answers, AnswersChain, Decides, EachListed, ReadsEach};
 
-use crate::facts::{Facts, NoFacts, facts_of};
+use crate::facts::{Facts, NameFacts, NoFacts, facts_of, initial_names};
+use crate::keys::{Anchor, Verification, verifications_of};
 use crate::names::Part;
 use crate::policy::{Policy, any_policy};
+use crate::read_chain::read_each;
 use crate::read_names::parts_of;
 use crate::state::{Stop, first_state, last_answer, next_state};
 use crate::step::Step;
+use der_extensions::extension::NameConstraints;
 use der_pkix::certificate::Certificate;
 use der_pkix::name::Name;
+use der_tlv::Error;
 use std::alloc::Global;
 
-/// The inputs (b), (c) and (e) to (g) of RFC 5280 section 6.1.1. The inputs (h) and (i) are that
-/// all names are permitted, and none is excluded.
+/// The inputs (b), (c) and (e) to (i) of RFC 5280 section 6.1.1.
 #[derive(Clone, Copy)]
 pub struct Inputs<'b, 'a> {
     /// The moment, in seconds from 1970-01-01T00:00:00Z (b).
@@ -30,6 +34,21 @@ pub struct Inputs<'b, 'a> {
     pub explicit_policy: bool,
     /// initial-any-policy-inhibit (g).
     pub any_policy_inhibit: bool,
+    /// initial-permitted-subtrees (h) and initial-excluded-subtrees (i), as a certificate before
+    /// the first would have them (RFC 5937 section 3.2): `None` permits all names, and excludes
+    /// none.
+    pub constraints: Option<NameConstraints<'a>>,
+}
+
+/// The outputs (RFC 5280 section 6.1.6) for a chain that is valid if each signature verifies and
+/// no certificate is revoked.
+#[derive(Drop)]
+pub struct ValidPath<'a> {
+    /// user_constrained_policy_set.
+    pub policies: Vec<Policy<'a>>,
+    /// What has to verify of each certificate, in their order. The last key is that of the last
+    /// certificate but one, or of the anchor.
+    pub verifications: Vec<Verification<'a>>,
 }
 
 /// Why a chain is not accepted.
@@ -39,6 +58,8 @@ pub enum PathError {
     Memory,
     /// The chain has no certificate.
     Empty,
+    /// The octets at this index are no certificate, with the error of reading them.
+    NotRead(usize, Error),
     /// The certificate at this index has an extension that section 6.1 processes twice, or one
     /// whose value cannot be read.
     Unread(usize),
@@ -46,32 +67,60 @@ pub enum PathError {
     Refused(usize, Step),
 }
 
-/// Validates a chain by RFC 5280 section 6.1, from the certificate that the trust anchor issued
-/// to the end certificate, and returns user_constrained_policy_set (6.1.6). The policies are
-/// processed as in RFC 9618.
+/// Validates a chain by RFC 5280 section 6.1, from the encoding of the certificate that the trust
+/// anchor issued to that of the end certificate. The policies are processed as in RFC 9618.
 ///
-/// Two steps are left to the caller, for each certificate: 6.1.3 (a)(1), that the signature of
-/// `octets_of_tbs_certificate` verifies with the key of the certificate before it or the anchor's
-/// (with the parameters that it inherits, 6.1.4 (d) to (f)); and (a)(3), that it is not revoked.
+/// Two steps are left to the caller, for each certificate: 6.1.3 (a)(1), that its signature
+/// verifies, as `ValidPath::verifications` says; and (a)(3), that it is not revoked.
 ///
 /// # Errors
-/// `PathError::Unread` for the first certificate whose extensions cannot be read;
-/// `PathError::Empty` for no certificates; `PathError::Refused` for the first certificate that a
-/// step refuses, and the first such step; `PathError::Memory` if memory runs out.
+/// `PathError::NotRead` for the first octets that are no certificate; `PathError::Unread` for the
+/// first certificate whose extensions cannot be read; `PathError::Empty` for no certificates;
+/// `PathError::Refused` for the first certificate that a step refuses, and the first such step;
+/// `PathError::Memory` if memory runs out.
 pub fn check_path<'a>(
+    alloc: Global,
+    anchor: &Anchor<'a>,
+    chain: &[&'a [u8]],
+    inputs: Inputs<'_, 'a>,
+) -> Result<ValidPath<'a>, PathError>
+    ensures { ChecksPath anchor.now chain.now inputs.entry result }
+{
+    let certificates = match read_each(alloc, chain) {
+        Ok(certificates) => certificates,
+        Err(error) => return Err(error),
+    };
+    let policies = match policies_of(alloc, &anchor.name, &certificates, &inputs) {
+        Ok(policies) => policies,
+        Err(error) => return Err(error),
+    };
+    match verifications_of(alloc, anchor, chain, &certificates) {
+        Ok(verifications) => Ok(ValidPath {
+            policies,
+            verifications,
+        }),
+        Err(_error) => Err(PathError::Memory),
+    }
+}
+
+/// Validates a chain of certificates that were read, and returns user_constrained_policy_set.
+pub fn policies_of<'a>(
     alloc: Global,
     anchor: &Name<'a>,
     chain: &[Certificate<'a>],
-    inputs: Inputs<'_, 'a>,
+    inputs: &Inputs<'_, 'a>,
 ) -> Result<Vec<Policy<'a>>, PathError>
     ensures { (lists : List (List Extension)) → EachListed chain.now lists
-        → AnswersChain anchor.now chain.now lists inputs.entry result }
+        → AnswersChain anchor.now chain.now lists inputs.now result }
 {
     let Ok(parts) = parts_of(alloc, anchor) else {
         return Err(PathError::Memory);
     };
+    let Ok(initial) = initial_names(alloc, &inputs.constraints) else {
+        return Err(PathError::Memory);
+    };
     let facts = facts_of_each(alloc, chain)?;
-    check_facts(alloc, any_policy(), &parts, &facts, inputs)
+    check_facts(alloc, any_policy(), &parts, &initial, &facts, inputs)
 }
 
 /// Reads the facts of each certificate.
@@ -111,10 +160,11 @@ fn check_facts<'a>(
     alloc: Global,
     any: Policy<'a>,
     anchor: &[Part<'a>],
+    constraints: &NameFacts<'a>,
     chain: &[Facts<'a>],
-    inputs: Inputs<'_, 'a>,
+    inputs: &Inputs<'_, 'a>,
 ) -> Result<Vec<Policy<'a>>, PathError>
-    ensures { Answers (answer any.entry anchor.now chain.now inputs.entry) result }
+    ensures { Answers (answer any.entry anchor.now constraints.now chain.now inputs.now) result }
 {
     let Ok(first) = first_state(alloc, any, chain.len(), inputs) else {
         return Err(PathError::Memory);
@@ -126,9 +176,20 @@ fn check_facts<'a>(
     'each: while let [facts, others @ ..] = left {
         let before = &chain[..at];
         if others.len() == 0 {
-            return at_index(at, last_answer(alloc, before, issuer, facts, inputs, state));
+            return at_index(
+                at,
+                last_answer(alloc, constraints, before, issuer, facts, inputs, state),
+            );
         }
-        match next_state(alloc, before, issuer, facts, inputs.moment, state) {
+        match next_state(
+            alloc,
+            constraints,
+            before,
+            issuer,
+            facts,
+            inputs.moment,
+            state,
+        ) {
             Ok(next) => state = next,
             Err(stop) => return Err(fault_at(at, stop)),
         }

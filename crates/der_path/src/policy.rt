@@ -56,7 +56,7 @@ pub(crate) fn has_any(policies: &[Policy<'_>]) -> bool
 }
 
 /// Returns anyPolicy.
-pub(crate) fn any_policy<'a>() -> Policy<'a>
+pub fn any_policy<'a>() -> Policy<'a>
     ensures { is_any result ≡ true }
 {
     Policy {

@@ -17,7 +17,7 @@ pub(crate) fn parts_of<'a>(alloc: Global, name: &Name<'a>) -> Result<Vec<Part<'a
 }
 
 /// Keeps the attributes of a part.
-struct KeepPart;
+pub(crate) struct KeepPart;
 
 impl<'a> Keeper<RelativeDistinguishedName<'a>> for KeepPart {
     ghost use Rattle.der_path.specs.Facts.{ShowsPart};
@@ -68,18 +68,21 @@ impl<'a> Keeper<GeneralName<'a>> for KeepName {
             GeneralName::OtherName(_) => Ok(PathName::Octets(0, &[])),
             GeneralName::Rfc822Name(text) => Ok(PathName::Octets(1, text.value.as_bytes())),
             GeneralName::DnsName(text) => Ok(PathName::Octets(2, text.value.as_bytes())),
-            GeneralName::X400Address(_) => Ok(PathName::Octets(3, &[])),
+            GeneralName::X400Address(address) => Ok(PathName::Octets(3, address.value.as_bytes())),
             GeneralName::DirectoryName(name) => Ok(PathName::Directory(parts_of(
                 alloc,
                 &name.fields.first,
             )?)),
-            GeneralName::EdiPartyName(_) => Ok(PathName::Octets(5, &[])),
+            GeneralName::EdiPartyName(name) => Ok(PathName::Octets(5, name.value.as_bytes())),
             GeneralName::UniformResourceIdentifier(text) => Ok(PathName::Octets(
                 6,
                 text.value.as_bytes(),
             )),
             GeneralName::IpAddress(address) => Ok(PathName::Octets(7, address.value.as_bytes())),
-            GeneralName::RegisteredId(_) => Ok(PathName::Octets(8, &[])),
+            GeneralName::RegisteredId(identifier) => Ok(PathName::Octets(
+                8,
+                identifier.value.as_bytes(),
+            )),
         }
     }
 }

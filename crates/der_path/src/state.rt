@@ -6,7 +6,7 @@ ghost use Rattle.der_path.specs.Paths.{first_state, last_answer, last_fault, map
 
 use crate::basic::{basic_fault, is_self_issued};
 use crate::counters::Counters;
-use crate::facts::Facts;
+use crate::facts::{Facts, NameFacts};
 use crate::graph::{Graph, user_constrained};
 use crate::names::Part;
 use crate::path::Inputs;
@@ -15,8 +15,8 @@ use crate::step::Step;
 use std::alloc::{AllocError, Global};
 
 /// The state, but for the names: permitted_subtrees and excluded_subtrees are those of the
-/// certificates before, and the working issuer name is the subject of the last of them. The keys
-/// are the caller's.
+/// certificates before and the initial ones, and the working issuer name is the subject of the
+/// last of them. The working key stands apart (`WorkingKey`).
 #[derive(Drop)]
 pub struct State<'a> {
     /// The numbers (d), (e), (f) and (k).
@@ -39,9 +39,9 @@ pub(crate) fn first_state<'a>(
     alloc: Global,
     any: Policy<'a>,
     count: usize,
-    inputs: Inputs<'_, 'a>,
+    inputs: &Inputs<'_, 'a>,
 ) -> Result<State<'a>, AllocError>
-    ensures { IfOk result (λ s. seen_state s ≡ first_state any.entry count inputs.entry) }
+    ensures { IfOk result (λ s. seen_state s ≡ first_state any.entry count inputs.now) }
 {
     let graph = Graph::first(alloc, any)?;
     Ok(State {
@@ -58,15 +58,16 @@ pub(crate) fn first_state<'a>(
 /// Returns the state after a certificate that is not the last (6.1.3 and 6.1.4).
 pub(crate) fn next_state<'a>(
     alloc: Global,
+    initial: &NameFacts<'a>,
     before: &[Facts<'a>],
     issuer: &[Part<'a>],
     facts: &Facts<'a>,
     moment: u64,
     state: State<'a>,
 ) -> Result<State<'a>, Stop>
-    ensures { Continues (next_state before.now issuer.now facts.now moment (seen_state state.entry)) result }
+    ensures { Continues (next_state initial.now before.now issuer.now facts.now moment (seen_state state.entry)) result }
 {
-    if let Some(step) = basic_fault(before, issuer, facts, moment, false) {
+    if let Some(step) = basic_fault(initial, before, issuer, facts, moment, false) {
         return Err(Stop::At(step));
     }
     let State { counters, graph } = state;
@@ -105,15 +106,16 @@ fn prepared<'a>(
 /// Returns user_constrained_policy_set after the last certificate (6.1.3 and 6.1.5).
 pub(crate) fn last_answer<'a>(
     alloc: Global,
+    initial: &NameFacts<'a>,
     before: &[Facts<'a>],
     issuer: &[Part<'a>],
     facts: &Facts<'a>,
-    inputs: Inputs<'_, 'a>,
+    inputs: &Inputs<'_, 'a>,
     state: State<'a>,
 ) -> Result<Vec<Policy<'a>>, Stop>
-    ensures { Decides (last_answer before.now issuer.now facts.now inputs.entry (seen_state state.entry)) result }
+    ensures { Decides (last_answer initial.now before.now issuer.now facts.now inputs.now (seen_state state.entry)) result }
 {
-    if let Some(step) = basic_fault(before, issuer, facts, inputs.moment, true) {
+    if let Some(step) = basic_fault(initial, before, issuer, facts, inputs.moment, true) {
         return Err(Stop::At(step));
     }
     let State { counters, graph } = state;

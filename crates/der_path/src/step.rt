@@ -1,7 +1,11 @@
 //! The steps of RFC 5280 section 6.1 that refuse a chain.
 
 ghost use Rattle.std.specs.Prelude.{◌≡◌};
-ghost use Rattle.der_path.specs.Steps.{letter};
+ghost use Rattle.der_path.specs.Steps.{field, letter};
+
+use der_extensions::extension::constants::{
+    ID_CE_BASIC_CONSTRAINTS, ID_CE_CERTIFICATE_POLICIES, ID_CE_KEY_USAGE, ID_CE_POLICY_MAPPINGS,
+};
 
 /// A step that refuses a certificate.
 #[derive(Clone, Copy, Debug, PartialEq, Eq)]
@@ -52,4 +56,38 @@ impl Step {
             Step::UserPolicies => "6.1.5 (g)",
         }
     }
+
+    /// Returns the part of the certificate that the step looks at.
+    pub fn field(self) -> Field
+        ensures { result ≡ field self }
+    {
+        match self {
+            Step::Validity => Field::Validity,
+            Step::Issuer => Field::Issuer,
+            Step::Permitted | Step::Excluded => Field::Names,
+            Step::Policies | Step::UserPolicies => Field::Extension(ID_CE_CERTIFICATE_POLICIES),
+            Step::AnyPolicyIsMapped => Field::Extension(ID_CE_POLICY_MAPPINGS),
+            Step::Ca => Field::Extension(ID_CE_BASIC_CONSTRAINTS),
+            Step::PathLength => Field::Certificate,
+            Step::KeyUsage => Field::Extension(ID_CE_KEY_USAGE),
+            Step::UnknownExtension | Step::UnknownExtensionAtEnd => Field::CriticalExtensions,
+        }
+    }
+}
+
+/// The part of a certificate that a step looks at.
+#[derive(Clone, Copy, Debug, PartialEq, Eq)]
+pub enum Field {
+    /// validity (RFC 5280 section 4.1.2.5).
+    Validity,
+    /// issuer (4.1.2.4).
+    Issuer,
+    /// subject and subjectAltName (4.1.2.6, 4.2.1.6).
+    Names,
+    /// The extension whose identifier has these contents octets, or its absence.
+    Extension([u8; 3]),
+    /// The critical extensions (4.2).
+    CriticalExtensions,
+    /// The certificate itself: it is one too many.
+    Certificate,
 }
