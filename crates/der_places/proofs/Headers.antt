@@ -10,7 +10,8 @@ use Rattle.der_tlv.specs.HeaderOctets.{header_octets}
 use Rattle.der_tlv.specs.HeaderReading.{read_header, header, octets_of}
 use Rattle.der_tlv.specs.ReaderState.{ReaderState, new_reader, after_read, rest, unless_failed}
 use Rattle.der_places.specs.declared.place.Place.{Place}
-use Rattle.der_places.specs.Walking.{StandAt, IsEncoding, EntersContents, FindsHeader, Follows, HoldsContents, Measures}
+use Rattle.der_places.specs.declared.walk.Sizes.{Sizes}
+use Rattle.der_places.specs.Walking.{StandAt, IsEncoding, EntersContents, FindsHeader, Follows, HasSizes, HoldsContents, Measures}
 
 -- the end of an encoding is an offset that a length can count
 counted : (octets : List ℕ) (n : ℕ) (own : List ℕ) → StandAt octets n own → n + length own < 2 ^ 32
@@ -69,26 +70,11 @@ header_is h own e same = ap (held h) same
     held default None = default
     held default (Some g) = g
 
--- the length of the encoding at an offset
-pub measured : (octets : List ℕ) (offset : ℕ) (h : Header) (count : ℕ) → FindsHeader octets offset (Some h) → (length (octets_of h) + h.length < 2 ^ 32 → count ≡ length (octets_of h) + h.length) → Measures octets offset count
-measured octets offset h count finds counts own e s =
+-- the sizes in the header that was found
+pub found_sizes : (octets : List ℕ) (offset : ℕ) (h : Header) (sizes : Sizes) → FindsHeader octets offset (Some h) → sizes.header ≡ length (octets_of h) → sizes.contents ≡ h.length → HasSizes octets offset sizes
+found_sizes octets offset h sizes finds head contents own e s =
     let same : h ≡ header e.tag (length e.contents) = header_is h own e (finds own e s) in
-    let lengths : length (octets_of h) + h.length ≡ length own = ap (λ g. length (octets_of g) + g.length) same ∙ sym (own_length own e) in
-    let all = counted octets offset own s in
-    let fits : length (octets_of h) + h.length < 2 ^ 32 = omega arith in
-    counts fits ∙ lengths
-
--- the byte range of the contents octets, from their start and the end of the encoding
-pub contents_there : (octets : List ℕ) (place start contents : Place) (end : ℕ) → EntersContents octets place.offset start → (place.offset + place.length < 2 ^ 32 → end ≡ place.offset + place.length) → contents.offset ≡ start.offset → (start.offset ≤ end → contents.length ≡ end - start.offset) → HoldsContents octets place contents
-contents_there octets place start contents end enters ends at counts own e s l =
-    let begins = (enters own e s).0 in
-    let parts = own_length own e in
-    let all = counted octets place.offset own s in
-    let fits : place.offset + place.length < 2 ^ 32 = omega arith in
-    let is_end = ends fits in
-    let ordered : start.offset ≤ end = omega arith in
-    let count = counts ordered in
-    (at ∙ begins, omega arith)
+    (head ∙ ap (λ g. length (octets_of g)) same, contents ∙ ap (λ (g : Header). g.length) same)
 
 -- if no header is found, no encoding is at the offset
 none_there : {A : Type 0} (octets : List ℕ) (offset : ℕ) → FindsHeader octets offset None → (own : List ℕ) → IsEncoding own → StandAt octets offset own → A
@@ -98,21 +84,36 @@ none_there octets offset finds own e s = absurd (subst told (finds own e s) tt)
     told None = Unit {0}
     told (Some h) = ⊥
 
-pub missing : (octets : List ℕ) (offset count : ℕ) → FindsHeader octets offset None → Measures octets offset count
-missing octets offset count finds own e s = none_there octets offset finds own e s
+pub no_sizes : (octets : List ℕ) (offset : ℕ) (sizes : Sizes) → FindsHeader octets offset None → HasSizes octets offset sizes
+no_sizes octets offset sizes finds own e s = none_there octets offset finds own e s
 
-pub not_entered : (octets : List ℕ) (offset : ℕ) (place : Place) → FindsHeader octets offset None → EntersContents octets offset place
-not_entered octets offset place finds own e s = none_there octets offset finds own e s
-
--- the empty byte range after the header of the encoding at an offset
-pub entering : (octets : List ℕ) (offset : ℕ) (h : Header) (place : Place) → FindsHeader octets offset (Some h) → (offset + length (octets_of h) < 2 ^ 32 → place.offset ≡ offset + length (octets_of h)) → place.length ≡ 0 → EntersContents octets offset place
-entering octets offset h place finds begins none own e s =
-    let same : h ≡ header e.tag (length e.contents) = header_is h own e (finds own e s) in
-    let head : length (octets_of h) ≡ length (header_octets e.tag (length e.contents)) = ap (λ g. length (octets_of g)) same in
+-- the number of octets in the encoding at an offset, by its sizes
+pub measured : (octets : List ℕ) (offset : ℕ) (sizes : Sizes) (count : ℕ) → HasSizes octets offset sizes → (sizes.header + sizes.contents < 2 ^ 32 → count ≡ sizes.header + sizes.contents) → Measures octets offset count
+measured octets offset sizes count has counts own e s =
+    let (head, contents) = has own e s in
     let parts = own_length own e in
     let all = counted octets offset own s in
-    let fits : offset + length (octets_of h) < 2 ^ 32 = omega arith in
+    let fits : sizes.header + sizes.contents < 2 ^ 32 = omega arith in
+    let is = counts fits in
+    omega arith
+
+-- the empty byte range after the header of the encoding at an offset
+pub entering : (octets : List ℕ) (offset : ℕ) (sizes : Sizes) (place : Place) → HasSizes octets offset sizes → (offset + sizes.header < 2 ^ 32 → place.offset ≡ offset + sizes.header) → place.length ≡ 0 → EntersContents octets offset place
+entering octets offset sizes place has begins none own e s =
+    let (head, contents) = has own e s in
+    let parts = own_length own e in
+    let all = counted octets offset own s in
+    let fits : offset + sizes.header < 2 ^ 32 = omega arith in
     (begins fits ∙ ap (λ k. offset + k) head, none)
+
+-- the byte range of the contents octets of the encoding at a byte range
+pub holding : (octets : List ℕ) (place contents : Place) (sizes : Sizes) → HasSizes octets place.offset sizes → (place.offset + sizes.header < 2 ^ 32 → contents.offset ≡ place.offset + sizes.header) → contents.length ≡ sizes.contents → HoldsContents octets place contents
+holding octets place contents sizes has begins is own e s l =
+    let (head, count) = has own e s in
+    let parts = own_length own e in
+    let all = counted octets place.offset own s in
+    let fits : place.offset + sizes.header < 2 ^ 32 = omega arith in
+    (begins fits ∙ ap (λ k. place.offset + k) head, is ∙ count)
 
 -- the byte range of the field after another, if it is present and if it is absent
 pub present : (octets : List ℕ) (last place : Place) (end : ℕ) → (last.offset + last.length < 2 ^ 32 → end ≡ last.offset + last.length) → Measures octets end place.length → place.offset ≡ end → Follows octets last true place

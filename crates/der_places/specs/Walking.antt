@@ -7,6 +7,7 @@ use Rattle.der_tlv.specs.HeaderReading.{header}
 use Rattle.der_tlv.specs.TagParts.{IsTag}
 use Rattle.der_elem.specs.Accepting.{Fits}
 use Rattle.der_places.specs.declared.place.Place.{Place}
+use Rattle.der_places.specs.declared.walk.Sizes.{Sizes}
 
 -- octets are at an offset, and the number of all octets is one that a length can count
 pub record StandAt (octets : List ℕ) (offset : ℕ) (own : List ℕ) : Type 0 where
@@ -31,6 +32,10 @@ IsField false octets = octets ≡ []
 -- the header of the encoding at an offset
 abbrev pub FindsHeader : List ℕ → ℕ → Option Header → Type 0
 FindsHeader octets offset found = (own : List ℕ) (e : IsEncoding own) → StandAt octets offset own → found ≡ Some (header e.tag (length e.contents))
+
+-- the number of octets in the header of the encoding at an offset, and in its contents
+abbrev pub HasSizes : List ℕ → ℕ → Sizes → Type 0
+HasSizes octets offset sizes = (own : List ℕ) (e : IsEncoding own) → StandAt octets offset own → (sizes.header ≡ length (header_octets e.tag (length e.contents))) × (sizes.contents ≡ length e.contents)
 
 -- the number of octets in the encoding at an offset
 abbrev pub Measures : List ℕ → ℕ → ℕ → Type 0

@@ -1,10 +1,9 @@
-use Rattle.std.proofs.Common.{refl}
-use Rattle.der_places.specs.declared.place.Place.{Place}
-use Rattle.der_places.proofs.Headers.{contents_there}
+use Rattle.std.proofs.Common.{◌≡◌, ◌+◌, ◌<◌, ◌^◌, refl, rules}
+use Rattle.der_places.proofs.Headers.{holding}
 use Rattle.der_places.proofs.walk.contents_of.Goals as goal
 
 pub returns : goal.returns
 returns c =
-    let start = c.start_of_contents-start in
-    let place : Place = record { offset = start.result.offset; length = c.between-length.result } in
-    contents_there c.args.octets.now c.args.place start.result place c.behind.result start.ensures c.behind.ensures refl c.between-length.ensures
+    let sizes = c.sizes_at-sizes in
+    let begins : c.args.place.offset + sizes.result.header < 2 ^ 32 → c.saturating_add.result ≡ c.args.place.offset + sizes.result.header = search rules in
+    holding c.args.octets.now c.args.place _ sizes.result sizes.ensures begins refl
