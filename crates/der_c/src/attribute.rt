@@ -1,8 +1,9 @@
 //! The byte ranges of the fields of attributes, which are read one after another.
 
-ghost use Rattle.std.specs.Prelude.{◌≡◌, take};
+ghost use Rattle.std.specs.Prelude.{◌≡◌, take, List, ℕ};
 ghost use Rattle.der_places.specs.Layout.{LaidOut};
-ghost use Rattle.der_c.specs.Answers.{AnswersFront, FrontRead};
+ghost use Rattle.der_c.specs.Answers.{AnswersFront};
+ghost use Rattle.der_c.specs.Items.{ReadAt};
 
 use crate::fault::{Fault, refuse};
 use crate::front::read_front;
@@ -41,27 +42,27 @@ pub extern "C" fn der_attribute_type_and_value<'a>(
 {
     match read_front::<AttributeTypeAndValue<'a>>(alloc, octets) {
         Ok((value, length)) => {
-            *out = attribute_type_and_value_at(&value, octets, length);
+            *out = attribute_type_and_value_at(&value, octets, Place { offset: 0, length });
             0
         }
         Err(error) => refuse(error, fault),
     }
 }
 
-/// Returns the byte ranges of an attribute that was read from the first `length` octets.
-fn attribute_type_and_value_at<'a>(
+/// Returns the byte ranges of an attribute that was read from a byte range.
+pub(crate) fn attribute_type_and_value_at<'a>(
     value: &AttributeTypeAndValue<'a>,
     octets: &[u8],
-    length: u32,
+    whole: Place,
 ) -> AttributeTypeAndValueAt
-    ensures fields { FrontRead ⟦<AttributeTypeAndValue<'a> as Form>⟧ octets.now value.now length
-        → LaidOut (⟦<AttributeTypeAndValue<'a> as Placed>⟧.layout value.now) 0 (⟦<AttributeTypeAndValue<'a> as Placed>⟧.listed result.fields) (take length octets.now) }
-    ensures offset { result.whole.offset ≡ 0 }
-    ensures length { result.whole.length ≡ length }
+    ensures fields { (own : List ℕ) → ReadAt ⟦<AttributeTypeAndValue<'a> as Form>⟧ octets.now whole.offset value.now own
+        → LaidOut (⟦<AttributeTypeAndValue<'a> as Placed>⟧.layout value.now) whole.offset (⟦<AttributeTypeAndValue<'a> as Placed>⟧.listed result.fields) own }
+    ensures offset { result.whole.offset ≡ whole.offset }
+    ensures length { result.whole.length ≡ whole.length }
 {
     AttributeTypeAndValueAt {
-        whole: Place { offset: 0, length },
-        fields: places_of(value, octets, 0),
+        whole,
+        fields: places_of(value, octets, whole.offset),
     }
 }
 
@@ -95,22 +96,22 @@ pub extern "C" fn der_attribute<'a>(
 {
     match read_front::<Attribute<'a>>(alloc, octets) {
         Ok((value, length)) => {
-            *out = attribute_at(&value, octets, length);
+            *out = attribute_at(&value, octets, Place { offset: 0, length });
             0
         }
         Err(error) => refuse(error, fault),
     }
 }
 
-/// Returns the byte ranges of an attribute that was read from the first `length` octets.
-fn attribute_at<'a>(value: &Attribute<'a>, octets: &[u8], length: u32) -> AttributeAt
-    ensures fields { FrontRead ⟦<Attribute<'a> as Form>⟧ octets.now value.now length
-        → LaidOut (⟦<Attribute<'a> as Placed>⟧.layout value.now) 0 (⟦<Attribute<'a> as Placed>⟧.listed result.fields) (take length octets.now) }
-    ensures offset { result.whole.offset ≡ 0 }
-    ensures length { result.whole.length ≡ length }
+/// Returns the byte ranges of an attribute that was read from a byte range.
+pub(crate) fn attribute_at<'a>(value: &Attribute<'a>, octets: &[u8], whole: Place) -> AttributeAt
+    ensures fields { (own : List ℕ) → ReadAt ⟦<Attribute<'a> as Form>⟧ octets.now whole.offset value.now own
+        → LaidOut (⟦<Attribute<'a> as Placed>⟧.layout value.now) whole.offset (⟦<Attribute<'a> as Placed>⟧.listed result.fields) own }
+    ensures offset { result.whole.offset ≡ whole.offset }
+    ensures length { result.whole.length ≡ whole.length }
 {
     AttributeAt {
-        whole: Place { offset: 0, length },
-        fields: places_of(value, octets, 0),
+        whole,
+        fields: places_of(value, octets, whole.offset),
     }
 }

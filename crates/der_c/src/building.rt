@@ -22,9 +22,9 @@ mod numbers;
 mod ocsp_request;
 mod ocsp_response;
 mod optional;
-mod parts;
+pub(crate) mod parts;
 mod request;
-mod room_writer;
+pub(crate) mod room_writer;
 mod values;
 
 ghost use Rattle.std.specs.Prelude.{◌≡◌, false};

@@ -63,7 +63,10 @@ pub extern "C" fn der_certificate_list<'a>(
 }
 
 /// Returns the byte ranges of a list that was read from these octets.
-fn certificate_list_at<'a>(value: &CertificateList<'a>, octets: &[u8]) -> CertificateListAt
+pub(crate) fn certificate_list_at<'a>(
+    value: &CertificateList<'a>,
+    octets: &[u8],
+) -> CertificateListAt
     ensures parts { AllRead ⟦<CertificateList<'a> as Form>⟧ octets.now value.now
         → LaidOut (⟦<CertificateList<'a> as Placed>⟧.layout value.now) 0 (⟦<CertificateList<'a> as Placed>⟧.listed result.parts) octets.now }
     ensures tbs { AllRead ⟦<CertificateList<'a> as Form>⟧ octets.now value.now

@@ -1,9 +1,10 @@
 //! The byte ranges of the fields of extensions, which are read one after another.
 
-ghost use Rattle.std.specs.Prelude.{◌≡◌, if◌then◌else◌, take};
+ghost use Rattle.std.specs.Prelude.{◌≡◌, if◌then◌else◌, take, List, ℕ};
 ghost use Rattle.der_pkix.specs.Certificate.Extension as extension;
 ghost use Rattle.der_places.specs.Layout.{LaidOut};
-ghost use Rattle.der_c.specs.Answers.{AnswersFront, FrontRead};
+ghost use Rattle.der_c.specs.Answers.{AnswersFront};
+ghost use Rattle.der_c.specs.Items.{ReadAt};
 
 use crate::fault::{Fault, refuse};
 use crate::front::read_front;
@@ -45,24 +46,24 @@ pub extern "C" fn der_extension<'a>(
 {
     match read_front::<Extension<'a>>(alloc, octets) {
         Ok((value, length)) => {
-            *out = extension_at(&value, octets, length);
+            *out = extension_at(&value, octets, Place { offset: 0, length });
             0
         }
         Err(error) => refuse(error, fault),
     }
 }
 
-/// Returns the byte ranges of an extension that was read from the first `length` octets.
-fn extension_at<'a>(value: &Extension<'a>, octets: &[u8], length: u32) -> ExtensionAt
-    ensures fields { FrontRead ⟦<Extension<'a> as Form>⟧ octets.now value.now length
-        → LaidOut (⟦<Extension<'a> as Placed>⟧.layout value.now) 0 (⟦<Extension<'a> as Placed>⟧.listed result.fields) (take length octets.now) }
-    ensures offset { result.whole.offset ≡ 0 }
-    ensures length { result.whole.length ≡ length }
+/// Returns the byte ranges of an extension that was read from a byte range.
+pub(crate) fn extension_at<'a>(value: &Extension<'a>, octets: &[u8], whole: Place) -> ExtensionAt
+    ensures fields { (own : List ℕ) → ReadAt ⟦<Extension<'a> as Form>⟧ octets.now whole.offset value.now own
+        → LaidOut (⟦<Extension<'a> as Placed>⟧.layout value.now) whole.offset (⟦<Extension<'a> as Placed>⟧.listed result.fields) own }
+    ensures offset { result.whole.offset ≡ whole.offset }
+    ensures length { result.whole.length ≡ whole.length }
     ensures is_critical { result.is_critical ≡ (if extension.critical value.now then 1 else 0) }
 {
     ExtensionAt {
-        whole: Place { offset: 0, length },
-        fields: places_of(value, octets, 0),
+        whole,
+        fields: places_of(value, octets, whole.offset),
         is_critical: u32::from(value.critical()),
     }
 }

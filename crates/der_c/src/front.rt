@@ -1,6 +1,6 @@
 //! Values at the front of octets.
 
-ghost use Rattle.std.specs.Prelude.{IfErr, IfOk};
+ghost use Rattle.std.specs.Prelude.{IfErr, IfOk, ◌≤◌, length};
 ghost use Rattle.der_c.specs.Answers.{FrontRead, FrontRefused};
 
 use der_elem::{Decode, Form};
@@ -13,6 +13,7 @@ pub(crate) fn read_front<'a, T: Decode<'a, SliceReader<'a>>>(
     octets: &'a [u8],
 ) -> Result<(T, u32), Error>
     ensures ok { IfOk result (λ r. FrontRead T.Form octets.now r.0 r.1) }
+    ensures within { IfOk result (λ r. r.1 ≤ length octets.now) }
     ensures err { IfErr result (λ e. FrontRefused T.Form octets.now e.kind) }
 {
     let mut reader = match SliceReader::new(octets) {

@@ -8,6 +8,7 @@
 
 mod algorithms;
 mod attribute;
+mod attribute_text;
 mod basic_ocsp_response;
 mod bits;
 pub mod building;
@@ -21,71 +22,164 @@ mod enveloped;
 mod extension;
 mod extension_values;
 mod fault;
+mod finding;
 mod front;
+mod general_names;
 mod hosts;
+mod identifiers;
+mod items;
+mod joined_text;
 mod key_values;
 mod keys;
 mod message;
+mod name_text;
 mod names;
+mod names_left;
+mod next;
 mod ocsp_request;
 mod ocsp_response;
+mod path;
 mod pkcs12;
+mod revocation;
+mod revoked;
 mod revoked_certificate;
 mod rfc5280;
 mod room;
+mod room_text;
+mod signed_attributes;
 mod signed_data;
 mod signer_info;
 mod single_response;
+mod subidentifiers;
 mod time_stamp;
 mod times;
 mod values;
 mod version;
 
-pub use algorithms::{
-    der_algorithm_identifier, der_ecdsa_sig_value, der_pbes2_params, der_pbkdf2_params,
-    der_rsassa_pss_params,
-};
-pub use attribute::{
-    AttributeAt, AttributeTypeAndValueAt, der_attribute, der_attribute_type_and_value,
-};
-pub use basic_ocsp_response::{BasicOcspResponseAt, der_basic_ocsp_response};
+pub use algorithms::der_algorithm_identifier;
+pub use algorithms::der_ecdsa_sig_value;
+pub use algorithms::der_pbes2_params;
+pub use algorithms::der_pbkdf2_params;
+pub use algorithms::der_rsassa_pss_params;
+pub use attribute::AttributeAt;
+pub use attribute::AttributeTypeAndValueAt;
+pub use attribute::der_attribute;
+pub use attribute::der_attribute_type_and_value;
+pub use basic_ocsp_response::BasicOcspResponseAt;
+pub use basic_ocsp_response::der_basic_ocsp_response;
 pub use canonical::der_canonical;
-pub use certificate::{CertificateAt, der_certificate};
-pub use certificate_list::{CertificateListAt, der_certificate_list};
-pub use certification_request::{CertificationRequestAt, der_certification_request};
-pub use comparing::{der_cert_id_is, der_issuer_and_serial_number_is};
-pub use contents::{der_contents, der_next_encoding, der_signed_octets};
-pub use enveloped::{
-    der_encrypted_content_info, der_encrypted_data, der_enveloped_data, der_ess_cert_idv2,
-    der_issuer_and_serial_number, der_key_trans_recipient_info, der_signing_certificate_v2,
-};
-pub use extension::{ExtensionAt, der_extension};
-pub use extension_values::{
-    der_access_description, der_authority_key_identifier, der_basic_constraints,
-    der_distribution_point, der_general_subtree, der_issuing_distribution_point,
-    der_name_constraints, der_policy_constraints, der_policy_information, der_policy_mapping,
-    der_policy_qualifier_info,
-};
+pub use certificate::CertificateAt;
+pub use certificate::der_certificate;
+pub use certificate_list::CertificateListAt;
+pub use certificate_list::der_certificate_list;
+pub use certification_request::CertificationRequestAt;
+pub use certification_request::der_certification_request;
+pub use comparing::der_cert_id_is;
+pub use comparing::der_issuer_and_serial_number_is;
+pub use contents::der_bit_string_octets;
+pub use contents::der_contents;
+pub use contents::der_extensions;
+pub use contents::der_items;
+pub use contents::der_next_encoding;
+pub use contents::der_signed_octets;
+pub use enveloped::der_encrypted_content_info;
+pub use enveloped::der_encrypted_data;
+pub use enveloped::der_enveloped_data;
+pub use enveloped::der_ess_cert_idv2;
+pub use enveloped::der_issuer_and_serial_number;
+pub use enveloped::der_key_trans_recipient_info;
+pub use enveloped::der_signing_certificate_v2;
+pub use extension::ExtensionAt;
+pub use extension::der_extension;
+pub use extension_values::der_access_description;
+pub use extension_values::der_authority_key_identifier;
+pub use extension_values::der_basic_constraints;
+pub use extension_values::der_distribution_point;
+pub use extension_values::der_general_subtree;
+pub use extension_values::der_issuing_distribution_point;
+pub use extension_values::der_name_constraints;
+pub use extension_values::der_policy_constraints;
+pub use extension_values::der_policy_information;
+pub use extension_values::der_policy_mapping;
+pub use extension_values::der_policy_qualifier_info;
 pub use fault::Fault;
+pub use general_names::der_names_address;
+pub use general_names::der_names_host;
 pub use hosts::der_name_is_of_host;
-pub use key_values::{
-    der_ec_private_key, der_encrypted_private_key_info, der_rsa_private_key, der_rsa_public_key,
-};
-pub use keys::{PrivateKeyInfoAt, der_private_key_info, der_subject_public_key_info};
+pub use identifiers::der_object_identifier_is;
+pub use identifiers::der_object_identifier_text;
+pub use key_values::der_ec_private_key;
+pub use key_values::der_encrypted_private_key_info;
+pub use key_values::der_rsa_private_key;
+pub use key_values::der_rsa_public_key;
+pub use keys::PrivateKeyInfoAt;
+pub use keys::der_private_key_info;
+pub use keys::der_subject_public_key_info;
+pub use name_text::der_name_text;
 pub use names::der_names_match;
-pub use ocsp_request::{der_cert_id, der_ocsp_request, der_request, der_tbs_request};
-pub use ocsp_response::{OcspResponseAt, der_ocsp_response};
-pub use pkcs12::{der_cert_bag, der_digest_info, der_mac_data, der_pfx, der_safe_bag};
-pub use revoked_certificate::{RevokedCertificateAt, der_revoked_certificate};
-pub use rfc5280::{der_check_rfc5280, der_check_rfc5280_list};
-pub use signed_data::{SignedDataAt, der_content_info, der_signed_data};
-pub use signer_info::{SignerInfoAt, der_signer_info};
-pub use single_response::{SingleResponseAt, der_single_response};
-pub use time_stamp::{
-    der_accuracy, der_message_imprint, der_pki_status_info, der_time_stamp_req,
-    der_time_stamp_resp, der_tst_info,
-};
-pub use values::{
-    der_fractional_time, der_general_name, der_named_bits, der_time, der_unsigned_integer,
-};
+pub use names_left::NameLeft;
+pub use names_left::der_has_attribute;
+pub use names_left::der_name;
+pub use names_left::der_next_name_attribute;
+pub use next::der_next_access_description;
+pub use next::der_next_attribute;
+pub use next::der_next_distribution_point;
+pub use next::der_next_ess_cert_idv2;
+pub use next::der_next_extension;
+pub use next::der_next_general_subtree;
+pub use next::der_next_policy_information;
+pub use next::der_next_policy_mapping;
+pub use next::der_next_policy_qualifier_info;
+pub use next::der_next_request;
+pub use next::der_next_revoked_certificate;
+pub use next::der_next_safe_bag;
+pub use next::der_next_signer_info;
+pub use next::der_next_single_response;
+pub use ocsp_request::der_cert_id;
+pub use ocsp_request::der_ocsp_request;
+pub use ocsp_request::der_request;
+pub use ocsp_request::der_tbs_request;
+pub use ocsp_response::OcspResponseAt;
+pub use ocsp_response::der_ocsp_response;
+pub use path::PathAt;
+pub use path::PathInputs;
+pub use path::VerificationAt;
+pub use path::der_check_path;
+pub use pkcs12::der_cert_bag;
+pub use pkcs12::der_digest_info;
+pub use pkcs12::der_mac_data;
+pub use pkcs12::der_pfx;
+pub use pkcs12::der_safe_bag;
+pub use revocation::ListStatusAt;
+pub use revocation::OcspInputs;
+pub use revocation::OcspStatusAt;
+pub use revocation::ResponderAt;
+pub use revocation::RevocationStatusAt;
+pub use revocation::der_list_status;
+pub use revocation::der_ocsp_status;
+pub use revocation::der_revocation_status;
+pub use revoked::der_find_revoked;
+pub use revoked_certificate::RevokedCertificateAt;
+pub use revoked_certificate::der_revoked_certificate;
+pub use rfc5280::der_check_rfc5280;
+pub use rfc5280::der_check_rfc5280_list;
+pub use signed_attributes::der_signed_attributes;
+pub use signed_data::SignedDataAt;
+pub use signed_data::der_content_info;
+pub use signed_data::der_signed_data;
+pub use signer_info::SignerInfoAt;
+pub use signer_info::der_signer_info;
+pub use single_response::SingleResponseAt;
+pub use single_response::der_single_response;
+pub use time_stamp::der_accuracy;
+pub use time_stamp::der_message_imprint;
+pub use time_stamp::der_pki_status_info;
+pub use time_stamp::der_time_stamp_req;
+pub use time_stamp::der_time_stamp_resp;
+pub use time_stamp::der_tst_info;
+pub use values::der_fractional_time;
+pub use values::der_general_name;
+pub use values::der_named_bits;
+pub use values::der_time;
+pub use values::der_unsigned_integer;
 pub use version::der_abi_version;

@@ -1,10 +1,11 @@
 //! The byte ranges of the fields of the entries of a list of revoked certificates, which are read
 //! one after another.
 
-ghost use Rattle.std.specs.Prelude.{◌≡◌, take};
+ghost use Rattle.std.specs.Prelude.{◌≡◌, take, List, ℕ};
 ghost use Rattle.der_pkix.specs.Crl.RevokedCertificate as revoked;
 ghost use Rattle.der_places.specs.Layout.{LaidOut};
-ghost use Rattle.der_c.specs.Answers.{AnswersFront, FrontRead};
+ghost use Rattle.der_c.specs.Answers.{AnswersFront};
+ghost use Rattle.der_c.specs.Items.{ReadAt};
 ghost use Rattle.der_c.specs.Times.{seconds_of};
 
 use crate::fault::{Fault, refuse};
@@ -48,28 +49,28 @@ pub extern "C" fn der_revoked_certificate<'a>(
 {
     match read_front::<RevokedCertificate<'a>>(alloc, octets) {
         Ok((value, length)) => {
-            *out = revoked_certificate_at(&value, octets, length);
+            *out = revoked_certificate_at(&value, octets, Place { offset: 0, length });
             0
         }
         Err(error) => refuse(error, fault),
     }
 }
 
-/// Returns the byte ranges of an entry that was read from the first `length` octets.
-fn revoked_certificate_at<'a>(
+/// Returns the byte ranges of an entry that was read from a byte range.
+pub(crate) fn revoked_certificate_at<'a>(
     value: &RevokedCertificate<'a>,
     octets: &[u8],
-    length: u32,
+    whole: Place,
 ) -> RevokedCertificateAt
-    ensures fields { FrontRead ⟦<RevokedCertificate<'a> as Form>⟧ octets.now value.now length
-        → LaidOut (⟦<RevokedCertificate<'a> as Placed>⟧.layout value.now) 0 (⟦<RevokedCertificate<'a> as Placed>⟧.listed result.fields) (take length octets.now) }
-    ensures offset { result.whole.offset ≡ 0 }
-    ensures length { result.whole.length ≡ length }
+    ensures fields { (own : List ℕ) → ReadAt ⟦<RevokedCertificate<'a> as Form>⟧ octets.now whole.offset value.now own
+        → LaidOut (⟦<RevokedCertificate<'a> as Placed>⟧.layout value.now) whole.offset (⟦<RevokedCertificate<'a> as Placed>⟧.listed result.fields) own }
+    ensures offset { result.whole.offset ≡ whole.offset }
+    ensures length { result.whole.length ≡ whole.length }
     ensures revocation_date { result.revocation_date ≡ seconds_of (revoked.revocation_date value.now) }
 {
     RevokedCertificateAt {
-        whole: Place { offset: 0, length },
-        fields: places_of(value, octets, 0),
+        whole,
+        fields: places_of(value, octets, whole.offset),
         revocation_date: seconds(value.revocation_date()),
     }
 }

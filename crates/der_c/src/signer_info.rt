@@ -1,9 +1,10 @@
 //! The byte ranges of the fields of signers, which are read one after another.
 
-ghost use Rattle.std.specs.Prelude.{◌≡◌, take};
+ghost use Rattle.std.specs.Prelude.{◌≡◌, take, List, ℕ};
 ghost use Rattle.der_cms.specs.Cms.SignerInfo as signer;
 ghost use Rattle.der_places.specs.Layout.{LaidOut};
-ghost use Rattle.der_c.specs.Answers.{AnswersFront, FrontRead};
+ghost use Rattle.der_c.specs.Answers.{AnswersFront};
+ghost use Rattle.der_c.specs.Items.{ReadAt};
 
 use crate::fault::{Fault, refuse};
 use crate::front::read_front;
@@ -45,24 +46,28 @@ pub extern "C" fn der_signer_info<'a>(
 {
     match read_front::<SignerInfo<'a>>(alloc, octets) {
         Ok((value, length)) => {
-            *out = signer_info_at(&value, octets, length);
+            *out = signer_info_at(&value, octets, Place { offset: 0, length });
             0
         }
         Err(error) => refuse(error, fault),
     }
 }
 
-/// Returns the byte ranges of a signer that was read from the first `length` octets.
-fn signer_info_at<'a>(value: &SignerInfo<'a>, octets: &[u8], length: u32) -> SignerInfoAt
-    ensures fields { FrontRead ⟦<SignerInfo<'a> as Form>⟧ octets.now value.now length
-        → LaidOut (⟦<SignerInfo<'a> as Placed>⟧.layout value.now) 0 (⟦<SignerInfo<'a> as Placed>⟧.listed result.fields) (take length octets.now) }
-    ensures offset { result.whole.offset ≡ 0 }
-    ensures length { result.whole.length ≡ length }
+/// Returns the byte ranges of a signer that was read from a byte range.
+pub(crate) fn signer_info_at<'a>(
+    value: &SignerInfo<'a>,
+    octets: &[u8],
+    whole: Place,
+) -> SignerInfoAt
+    ensures fields { (own : List ℕ) → ReadAt ⟦<SignerInfo<'a> as Form>⟧ octets.now whole.offset value.now own
+        → LaidOut (⟦<SignerInfo<'a> as Placed>⟧.layout value.now) whole.offset (⟦<SignerInfo<'a> as Placed>⟧.listed result.fields) own }
+    ensures offset { result.whole.offset ≡ whole.offset }
+    ensures length { result.whole.length ≡ whole.length }
     ensures version { result.version ≡ signer.version value.now }
 {
     SignerInfoAt {
-        whole: Place { offset: 0, length },
-        fields: places_of(value, octets, 0),
+        whole,
+        fields: places_of(value, octets, whole.offset),
         version: u64::from(value.version()),
     }
 }

@@ -1,10 +1,11 @@
 //! The byte ranges of the fields of responses about single certificates, which are read one after
 //! another.
 
-ghost use Rattle.std.specs.Prelude.{◌≡◌, take};
+ghost use Rattle.std.specs.Prelude.{◌≡◌, take, List, ℕ};
 ghost use Rattle.der_ocsp.specs.Ocsp.SingleResponse as single;
 ghost use Rattle.der_places.specs.Layout.{LaidOut};
-ghost use Rattle.der_c.specs.Answers.{AnswersFront, FrontRead};
+ghost use Rattle.der_c.specs.Answers.{AnswersFront};
+ghost use Rattle.der_c.specs.Items.{ReadAt};
 ghost use Rattle.der_c.specs.Status.{number_of_status, revoked_at};
 ghost use Rattle.der_c.specs.Times.{seconds_if_given, seconds_of_general};
 
@@ -59,31 +60,31 @@ pub extern "C" fn der_single_response<'a>(
 {
     match read_front::<SingleResponse<'a>>(alloc, octets) {
         Ok((value, length)) => {
-            *out = single_response_at(&value, octets, length);
+            *out = single_response_at(&value, octets, Place { offset: 0, length });
             0
         }
         Err(error) => refuse(error, fault),
     }
 }
 
-/// Returns the byte ranges of a response that was read from the first `length` octets.
-fn single_response_at<'a>(
+/// Returns the byte ranges of a response that was read from a byte range.
+pub(crate) fn single_response_at<'a>(
     value: &SingleResponse<'a>,
     octets: &[u8],
-    length: u32,
+    whole: Place,
 ) -> SingleResponseAt
-    ensures fields { FrontRead ⟦<SingleResponse<'a> as Form>⟧ octets.now value.now length
-        → LaidOut (⟦<SingleResponse<'a> as Placed>⟧.layout value.now) 0 (⟦<SingleResponse<'a> as Placed>⟧.listed result.fields) (take length octets.now) }
-    ensures offset { result.whole.offset ≡ 0 }
-    ensures length { result.whole.length ≡ length }
+    ensures fields { (own : List ℕ) → ReadAt ⟦<SingleResponse<'a> as Form>⟧ octets.now whole.offset value.now own
+        → LaidOut (⟦<SingleResponse<'a> as Placed>⟧.layout value.now) whole.offset (⟦<SingleResponse<'a> as Placed>⟧.listed result.fields) own }
+    ensures offset { result.whole.offset ≡ whole.offset }
+    ensures length { result.whole.length ≡ whole.length }
     ensures this_update { result.this_update ≡ seconds_of_general (single.this_update value.now) }
     ensures next_update { result.next_update ≡ seconds_if_given (single.next_update value.now) }
     ensures revocation_time { result.revocation_time ≡ revoked_at (single.cert_status value.now) }
     ensures status { result.status ≡ number_of_status (single.cert_status value.now) }
 {
     SingleResponseAt {
-        whole: Place { offset: 0, length },
-        fields: places_of(value, octets, 0),
+        whole,
+        fields: places_of(value, octets, whole.offset),
         this_update: general_seconds(value.this_update()),
         next_update: general_seconds_or_none(value.next_update()),
         revocation_time: revocation_seconds(value.cert_status()),

@@ -75,7 +75,7 @@ pub(crate) fn value_at<'a, T: FromDer<'a>>(
 }
 
 /// Returns the octets at a byte range.
-fn octets_at<'a>(octets: &'a [u8], place: Place) -> Result<&'a [u8], Fault>
+pub(crate) fn octets_at<'a>(octets: &'a [u8], place: Place) -> Result<&'a [u8], Fault>
     ensures within { IfOk result (λ own. IsWithin octets.now place) }
     ensures ok { IfOk result (λ own. own.now ≡ octets_at octets.now place) }
     ensures err { IfErr result (λ f. IsOutside octets.now place f) }

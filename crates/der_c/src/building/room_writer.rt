@@ -1,11 +1,12 @@
 //! Values that are written to a buffer of the caller.
 
 ghost use Rattle.std.specs.Prelude.{◌≡◌, ◌<◌, ◌≤◌, ◌^◌, false, length};
+ghost use Rattle.der_tlv.specs.HeaderOctets.{header_octets};
 ghost use Rattle.der_c.specs.Building.{Builds, WritesMade};
 
 use crate::fault::{Fault, SHORT_ROOM, refuse, refuse_call};
 use der_elem::{Encode, Form};
-use der_tlv::{Error, ErrorKind, Writer};
+use der_tlv::{Error, ErrorKind, Header, Writer};
 
 /// A writer to a buffer of the caller, from its front on. A write that does not fit is refused
 /// (10), and then each write (17).
@@ -88,6 +89,22 @@ fn fill_with<T: Encode>(value: &T, room: &mut [u8])
         failed: false,
     };
     match value.encode(&mut writer) {
+        Ok(()) => {}
+        Err(_) => {}
+    }
+}
+
+/// Writes a header to a buffer that has its length.
+pub(crate) fn fill_with_header(header: Header, room: &mut [u8])
+    requires { length room.old ≡ length (header_octets header.tag header.length) }
+    ensures { room.new ≡ header_octets header.tag header.length }
+{
+    let mut writer = RoomWriter {
+        room,
+        position: 0,
+        failed: false,
+    };
+    match header.encode(&mut writer) {
         Ok(()) => {}
         Err(_) => {}
     }

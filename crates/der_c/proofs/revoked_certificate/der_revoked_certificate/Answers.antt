@@ -1,8 +1,9 @@
-use Rattle.std.proofs.Common.{inl, refl}
+use Rattle.std.proofs.Common.{inl, refl, take}
+use Rattle.der_c.proofs.Left.{front_read}
 use Rattle.der_c.proofs.revoked_certificate.der_revoked_certificate.Goals as goal
 
 pub returns-in-Ok : goal.returns-in-Ok
 returns-in-Ok c =
     let read = c.in-Ok.ensures.ok in
     let at = c.revoked_certificate_at.ensures in
-    inl (record { number = refl; unchanged = refl }, record { value = c.in-Ok.value; taken = c.in-Ok.length; read = read; shown = (at.offset, at.length, at.fields read, at.revocation_date) })
+    inl (record { number = refl; unchanged = refl }, record { value = c.in-Ok.value; taken = c.in-Ok.length; read = read; shown = (at.offset, at.length, at.fields (take c.in-Ok.length c.args.octets.now) (front_read read), at.revocation_date) })

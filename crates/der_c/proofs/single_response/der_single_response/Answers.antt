@@ -1,8 +1,9 @@
-use Rattle.std.proofs.Common.{inl, refl}
+use Rattle.std.proofs.Common.{inl, refl, take}
+use Rattle.der_c.proofs.Left.{front_read}
 use Rattle.der_c.proofs.single_response.der_single_response.Goals as goal
 
 pub returns-in-Ok : goal.returns-in-Ok
 returns-in-Ok c =
     let read = c.in-Ok.ensures.ok in
     let at = c.single_response_at.ensures in
-    inl (record { number = refl; unchanged = refl }, record { value = c.in-Ok.value; taken = c.in-Ok.length; read = read; shown = (at.offset, at.length, at.fields read, at.this_update, at.next_update, at.revocation_time, at.status) })
+    inl (record { number = refl; unchanged = refl }, record { value = c.in-Ok.value; taken = c.in-Ok.length; read = read; shown = (at.offset, at.length, at.fields (take c.in-Ok.length c.args.octets.now) (front_read read), at.this_update, at.next_update, at.revocation_time, at.status) })

@@ -1,0 +1,6 @@
+-- A chain that is found is written.
+use Rattle.std.proofs.Common.{inl}
+use Rattle.der_c.proofs.path.der_check_path.Goals as goal
+
+pub returns-in-Ok : goal.returns-in-Ok
+returns-in-Ok c = inl (record { found = c.in-Ok.found; has = c.in-Ok.ensures.ok; written = c.write_path.ensures })

@@ -1,0 +1,6 @@
+-- The status that the lists tell is written.
+use Rattle.std.proofs.Common.{inl, refl}
+use Rattle.der_c.proofs.revocation.lists.der_revocation_status.Goals as goal
+
+pub returns-in-Ok : goal.returns-in-Ok
+returns-in-Ok c = inl (record { status = c.in-Ok.status; tells = c.in-Ok.ensures.ok; out_is = c.revocation_status_at.ensures; no_fault = record { number = refl; unchanged = refl } })
