@@ -6,6 +6,7 @@
 
 use certview_names::MessageNames;
 use certview_text::{Fault, FieldName, Outcome, View, plain, read_input, show, show_refused};
+use chains::show_path_of;
 use der_lines::{Fault as LineFault, LineReader, OctetWriter};
 use lines::{asks_for_lines, fault_of_run};
 use options::{File, Request, request_of};
@@ -14,6 +15,7 @@ use std::io::{self, BufReader, IsTerminal};
 use std::process::ExitCode;
 use words::{is_text, words_of};
 
+mod chains;
 mod lines;
 mod options;
 mod words;
@@ -35,6 +37,14 @@ fn answer_lines(rt: &HostRuntime) -> Result<(), Fault> {
         Ok(()) => Ok(()),
         Err(LineFault::Output) if output.failure == Some(io::ErrorKind::BrokenPipe) => Ok(()),
         Err(fault) => Err(fault_of_run(fault)),
+    }
+}
+
+/// Shows the path or the files that are asked for, and returns the status.
+fn show_request(rt: &HostRuntime, request: &Request<'_>) -> u8 {
+    match &request.anchors {
+        Some(anchors) => show_path_of(rt, request, anchors),
+        None => show_files(rt, request),
     }
 }
 
@@ -97,7 +107,7 @@ fn refuse(rt: &HostRuntime, file: &str, view: &View<'_>, fault: Fault, octets: &
 }
 
 /// Reads the octets of a file, or of standard input.
-fn octets_of(rt: &HostRuntime, file: &str) -> Result<Vec<u8>, Fault> {
+pub fn octets_of(rt: &HostRuntime, file: &str) -> Result<Vec<u8>, Fault> {
     if file != "-" {
         return octets_of_file(rt, file);
     }
@@ -122,7 +132,7 @@ fn octets_of_file(rt: &HostRuntime, word: &str) -> Result<Vec<u8>, Fault> {
 }
 
 /// Reports on standard error a file that is not shown, and returns the status.
-fn told(rt: &HostRuntime, file: &str, fault: Fault) -> u8 {
+pub fn told(rt: &HostRuntime, file: &str, fault: Fault) -> u8 {
     let _ = match plain(rt.alloc(), file) {
         Ok(name) if file != "-" => eprintln!(rt; "certview: {name}: {fault}"),
         _ => eprintln!(rt; "certview: {fault}"),
@@ -146,7 +156,7 @@ fn answer(rt: &HostRuntime, words: &[String]) -> Result<u8, Fault> {
     }
     let names = FieldName::names(rt.alloc())?;
     match request_of(rt.alloc(), words, names.as_slice()) {
-        Ok(request) => Ok(show_files(rt, &request)),
+        Ok(request) => Ok(show_request(rt, &request)),
         Err(error) => match error.print(rt) {
             Ok(()) => Ok(error.exit_code() as u8),
             Err(_) => Err(Fault::Output),

@@ -17,8 +17,8 @@ Diffie-Hellman.
 With the word 'lines' alone, it answers lines of standard input, each a message's name,
 a space and hex digits.
 
-The status is 0, 1 for what is refused, could be read in part, breaks a rule or is not
-valid, and 2 where a file, the machine or the command line failed.";
+The status is 0, 1 for what is refused, could be read in part, breaks a rule, is not
+valid or has no path, and 2 where a file, the machine or the command line failed.";
 
 /// A file to read.
 #[derive(Drop)]
@@ -40,6 +40,8 @@ pub struct Request<'a> {
     pub is_json: bool,
     /// The requests about each message besides its fields.
     pub asked: Asked,
+    /// The file of trust anchors, if a path to the first certificate is looked for.
+    pub anchors: Option<File<'a>>,
 }
 
 impl<'a> Request<'a> {
@@ -83,6 +85,15 @@ pub fn request_of<'a>(
     names: &'a [&'a str],
 ) -> Result<Request<'a>, Error> {
     let matches = command(alloc, names)?.try_get_matches_from(words)?;
+    let is_json = matches.get_flag("json");
+    let wants_path = matches.get_flag("path");
+    let anchors = anchors_of(
+        alloc,
+        wants_path,
+        is_json,
+        matches.get_str("anchors"),
+        names,
+    )?;
     let files = match matches.get_strs("FILE") {
         Some(given) => files_of(alloc, given)?,
         None => standard_input(alloc)?,
@@ -98,13 +109,35 @@ pub fn request_of<'a>(
     Ok(Request {
         files,
         fields,
-        is_json: matches.get_flag("json"),
+        is_json,
         asked: Asked {
             has_rules: matches.get_flag("check"),
             has_fingerprint: matches.get_flag("fingerprint"),
             moment,
         },
+        anchors,
     })
+}
+
+/// Returns the file of trust anchors: `--path` and `--anchors` stand together, without `--json`.
+fn anchors_of<'a>(
+    alloc: Global,
+    wants_path: bool,
+    is_json: bool,
+    word: Option<&'a str>,
+    names: &[&str],
+) -> Result<Option<File<'a>>, Error> {
+    match word {
+        Some(word) if wants_path && !is_json => {
+            let name = name_of_word(alloc, word)?;
+            Ok(Some(File { word, name }))
+        }
+        None if !wants_path => Ok(None),
+        _ => Err(command(alloc, names)?.error(
+            ErrorKind::MissingRequiredArgument,
+            "--path and --anchors FILE are given together, and without --json",
+        )?),
+    }
 }
 
 /// Returns the files that these words name.
@@ -183,6 +216,11 @@ fn command<'a>(alloc: Global, names: &'a [&'a str]) -> Result<Command<'a>, Error
     let moment = Arg::new(alloc, "at").long("at").value_name("TIME").help(
         "Says whether each certificate is valid, and each list current, at that day or moment",
     );
+    let anchors = Arg::new(alloc, "anchors")
+        .long("anchors")
+        .value_name("FILE")
+        .help("The certificates of the trust anchors of --path");
+    let path = "Shows the path from a trust anchor to the first certificate among all of them";
     let json = "Writes one document of JSON, by docs/certview.schema.json";
     let check = "Says what each certificate or list breaks of RFC 5280 beyond the grammar";
     let fingerprint = "Shows the SHA-256 of each message but private keys";
@@ -195,6 +233,8 @@ fn command<'a>(alloc: Global, names: &'a [&'a str]) -> Result<Command<'a>, Error
         .arg(flag(alloc, "check", check))?
         .arg(moment)?
         .arg(flag(alloc, "fingerprint", fingerprint))?
+        .arg(flag(alloc, "path", path))?
+        .arg(anchors)?
         .arg(files)?;
     Ok(command)
 }

@@ -1,9 +1,10 @@
 //! The values of the extensions authorityInfoAccess and subjectInfoAccess as text (RFC 5280
 //! sections 4.2.2.1 and 4.2.2.2). Both have one form.
 
-use crate::identifiers::push_identifier;
-use crate::other_names::push_other_name;
+use crate::identifiers::push_identifier_part;
+use crate::other_names::push_name_part;
 use crate::page::Inner;
+use crate::part_name::PartName;
 use crate::printer::Printer;
 use der_asn1_types::FromDer;
 use der_extensions::extension::{AccessDescription, AuthorityInfoAccessSyntax};
@@ -15,6 +16,7 @@ pub fn push_access(printer: &mut Printer<'_>, inner: Inner<'_>) -> Result<(), Al
         Ok(ways) => ways,
         Err(error) => return printer.push_malformed_value(inner, error),
     };
+    printer.page.open_list(PartName::Descriptions)?;
     for item in ways.items().iter(printer.alloc) {
         let Ok(way) = item else {
             // The item was decoded before, so only memory can run out.
@@ -22,13 +24,15 @@ pub fn push_access(printer: &mut Printer<'_>, inner: Inner<'_>) -> Result<(), Al
         };
         push_way(printer, &way)?;
     }
-    Ok(())
+    printer.page.close_list()
 }
 
 fn push_way(printer: &mut Printer<'_>, way: &AccessDescription<'_>) -> Result<(), AllocError> {
     printer.push_str(", ")?;
+    printer.page.open(PartName::Item)?;
     let method = way.access_method();
-    push_identifier(printer, method.as_bytes())?;
+    push_identifier_part(printer, PartName::AccessMethod, method.as_bytes())?;
     printer.push(' ')?;
-    push_other_name(printer, way.access_location())
+    push_name_part(printer, PartName::AccessLocation, way.access_location())?;
+    printer.page.close()
 }

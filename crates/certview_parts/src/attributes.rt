@@ -4,6 +4,7 @@ use crate::characters::Behind;
 use crate::identifiers::push_attribute_type;
 use crate::names::push_value;
 use crate::page::Inner;
+use crate::part_name::PartName;
 use crate::printer::Printer;
 use der_asn1_types::FromDer;
 use der_asn1_types::asn1::AnyRef;
@@ -20,6 +21,7 @@ pub fn push_directory_attributes(
         Ok(attributes) => attributes,
         Err(error) => return printer.push_malformed_value(inner, error),
     };
+    printer.page.open_list(PartName::Attributes)?;
     for item in attributes.items().iter(printer.alloc) {
         let Ok(attribute) = item else {
             // The item was decoded before, so only memory can run out.
@@ -27,15 +29,17 @@ pub fn push_directory_attributes(
         };
         push_attribute(printer, &attribute)?;
     }
-    Ok(())
+    printer.page.close_list()
 }
 
 /// Adds an attribute: its type, then its values, the first after a `=` and each other one after a
 /// `+`.
 fn push_attribute(printer: &mut Printer<'_>, attribute: &Attribute<'_>) -> Result<(), AllocError> {
     printer.push_str(", ")?;
+    printer.page.open(PartName::Item)?;
     let identifier = attribute.type_();
-    push_attribute_type(printer, identifier.as_bytes())?;
+    push_type(printer, identifier.as_bytes())?;
+    printer.page.open_list(PartName::Values)?;
     let mut mark = '=';
     for item in attribute.values().iter(printer.alloc) {
         let Ok(value) = item else {
@@ -45,7 +49,14 @@ fn push_attribute(printer: &mut Printer<'_>, attribute: &Attribute<'_>) -> Resul
         push_marked(printer, mark, &value)?;
         mark = '+';
     }
-    Ok(())
+    printer.page.close_list()?;
+    printer.page.close()
+}
+
+fn push_type(printer: &mut Printer<'_>, identifier: &[u8]) -> Result<(), AllocError> {
+    let begin = printer.page.text.len();
+    push_attribute_type(printer, identifier)?;
+    printer.page.mark(PartName::Type, begin)
 }
 
 /// Adds a value after a mark.
@@ -55,5 +66,7 @@ fn push_marked(
     value: &AnyRef<'_>,
 ) -> Result<(), AllocError> {
     printer.push(mark)?;
-    push_value(printer, value, Behind::Mark)
+    let begin = printer.page.text.len();
+    push_value(printer, value, Behind::Mark)?;
+    printer.page.mark(PartName::Item, begin)
 }

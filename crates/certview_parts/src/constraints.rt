@@ -3,6 +3,7 @@
 
 use crate::hexadecimal::push_number_of;
 use crate::page::{Inner, Page, push_malformed};
+use crate::part_name::PartName;
 use crate::printer::Printer;
 use der_asn1_types::FromDer;
 use der_asn1_types::asn1::UintRef;
@@ -19,12 +20,15 @@ pub fn push_constraints(printer: &mut Printer<'_>, inner: Inner<'_>) -> Result<(
 }
 
 fn push_authority(page: &mut Page, constraints: &BasicConstraints<'_>) -> Result<(), AllocError> {
-    if constraints.ca() {
+    let is_authority = constraints.ca();
+    page.push_flag(PartName::Ca, is_authority)?;
+    if is_authority {
         page.text.push_str("CA")?;
     } else {
         page.text.push_str("no CA")?;
     }
-    push_count(page, "path length", constraints.path_len_constraint())
+    let number = constraints.path_len_constraint();
+    push_count(page, PartName::PathLenConstraint, "path length", number)
 }
 
 /// Adds the number of certificates after which a policy is required, and the number after which
@@ -36,9 +40,11 @@ pub fn push_policy_constraints(
     match PolicyConstraints::from_der(printer.alloc, inner.octets) {
         Ok(constraints) => {
             let explicit = constraints.require_explicit_policy();
-            push_count(printer.page, "explicit policy after", explicit)?;
+            let part = PartName::RequireExplicitPolicy;
+            push_count(printer.page, part, "explicit policy after", explicit)?;
             let mapping = constraints.inhibit_policy_mapping();
-            push_count(printer.page, "no mapping after", mapping)
+            let part = PartName::InhibitPolicyMapping;
+            push_count(printer.page, part, "no mapping after", mapping)
         }
         Err(error) => printer.push_malformed_value(inner, error),
     }
@@ -46,6 +52,7 @@ pub fn push_policy_constraints(
 
 fn push_count(
     page: &mut Page,
+    part: PartName,
     label: &str,
     number: Option<&UintRef<'_>>,
 ) -> Result<(), AllocError> {
@@ -54,10 +61,20 @@ fn push_count(
             page.text.push_str(", ")?;
             page.text.push_str(label)?;
             page.text.push(' ')?;
-            push_number_of(page, number.as_bytes())
+            push_number_part(page, part, number)
         }
         None => Ok(()),
     }
+}
+
+fn push_number_part(
+    page: &mut Page,
+    part: PartName,
+    number: &UintRef<'_>,
+) -> Result<(), AllocError> {
+    let begin = page.text.len();
+    push_number_of(page, number.as_bytes())?;
+    page.mark(part, begin)
 }
 
 /// Adds a number: the number of a list, the number of a delta's base list, or the number of
@@ -65,7 +82,7 @@ fn push_count(
 pub fn push_number(printer: &mut Printer<'_>, inner: Inner<'_>) -> Result<(), AllocError> {
     printer.push_str(", ")?;
     match UintRef::from_der(printer.alloc, inner.octets) {
-        Ok(number) => push_number_of(printer.page, number.as_bytes()),
+        Ok(number) => push_number_part(printer.page, PartName::Number, &number),
         Err(error) => push_malformed(printer.page, inner.begin, error),
     }
 }

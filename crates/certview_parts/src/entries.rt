@@ -1,9 +1,10 @@
 //! The values of the extensions of a revoked entry as text (RFC 5280 section 5.3), except names.
 
-use crate::identifiers::push_identifier;
+use crate::identifiers::push_identifier_part;
 use crate::page::{Inner, push_malformed, push_malformed_inner};
+use crate::part_name::PartName;
 use crate::printer::Printer;
-use crate::times::push_date_time;
+use crate::times::push_time_part;
 use der_asn1_types::FromDer;
 use der_asn1_types::asn1::Enumerated;
 use der_extensions::extension::{CrlReason, HoldInstructionCode, InvalidityDate};
@@ -13,7 +14,9 @@ use std::alloc::AllocError;
 pub fn push_reason(printer: &mut Printer<'_>, inner: Inner<'_>) -> Result<(), AllocError> {
     printer.push_str(", ")?;
     match Enumerated::<CrlReason>::from_der(printer.alloc, inner.octets) {
-        Ok(reason) => printer.push_str(name_of(reason.value)),
+        Ok(reason) => printer
+            .page
+            .push_part(PartName::Reason, name_of(reason.value)),
         Err(error) => push_malformed(printer.page, inner.begin, error),
     }
 }
@@ -38,7 +41,7 @@ pub fn name_of(reason: CrlReason) -> &'static str {
 pub fn push_invalidity(printer: &mut Printer<'_>, inner: Inner<'_>) -> Result<(), AllocError> {
     printer.push_str(", ")?;
     match InvalidityDate::from_der(printer.alloc, inner.octets) {
-        Ok(time) => push_date_time(printer.page, &time.to_date_time()),
+        Ok(time) => push_time_part(printer.page, PartName::Time, &time.to_date_time()),
         Err(error) => push_malformed_inner(printer.page, inner, error),
     }
 }
@@ -47,7 +50,7 @@ pub fn push_invalidity(printer: &mut Printer<'_>, inner: Inner<'_>) -> Result<()
 pub fn push_instruction(printer: &mut Printer<'_>, inner: Inner<'_>) -> Result<(), AllocError> {
     printer.push_str(", ")?;
     match HoldInstructionCode::from_der(printer.alloc, inner.octets) {
-        Ok(code) => push_identifier(printer, code.as_bytes()),
+        Ok(code) => push_identifier_part(printer, PartName::Instruction, code.as_bytes()),
         Err(error) => push_malformed(printer.page, inner.begin, error),
     }
 }

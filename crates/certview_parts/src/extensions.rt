@@ -5,10 +5,11 @@ use crate::attributes::push_directory_attributes;
 use crate::constraints::{push_constraints, push_number, push_policy_constraints};
 use crate::entries::{push_instruction, push_invalidity, push_reason};
 use crate::hexadecimal::push_digits;
-use crate::identifiers::push_identifier;
+use crate::identifiers::push_identifier_part;
 use crate::key_identifiers::{push_authority_key, push_subject_key};
 use crate::other_names::push_other_names;
 use crate::page::{Inner, Page};
+use crate::part_name::PartName;
 use crate::periods::push_period;
 use crate::place::Place;
 use crate::points::{push_issuing_point, push_points};
@@ -37,22 +38,29 @@ const ID_PE_AUTHORITY_INFO_ACCESS: &[u8] = &constants::ID_PE_AUTHORITY_INFO_ACCE
 /// The identifier of subjectInfoAccess (RFC 5280 section 4.2.2.2).
 const ID_PE_SUBJECT_INFO_ACCESS: &[u8] = &constants::ID_PE_SUBJECT_INFO_ACCESS;
 
-/// Adds an extension: its identifier, whether it is critical, and its value.
+/// Adds an extension: its identifier, whether it is critical, and its value; and a part with
+/// these.
 pub fn push_extension(
     printer: &mut Printer<'_>,
     place: &Place,
     extension: &Extension<'_>,
 ) -> Result<(), AllocError> {
     let identifier = extension.extn_id();
-    push_identifier(printer, identifier.as_bytes())?;
-    if extension.critical() {
+    printer.page.open(PartName::Item)?;
+    push_identifier_part(printer, PartName::ExtnId, identifier.as_bytes())?;
+    let is_critical = extension.critical();
+    printer.page.push_flag(PartName::Critical, is_critical)?;
+    if is_critical {
         printer.push_str(", critical")?;
     }
     let octets = extension.extn_value().as_bytes();
     let count = octets.len();
     write!(printer.page.text, ", {count} octets")?;
     let begin = (place.behind() as usize).saturating_sub(count);
-    push_value(printer, identifier.as_bytes(), Inner { octets, begin })
+    printer.page.open(PartName::ExtnValue)?;
+    push_value(printer, identifier.as_bytes(), Inner { octets, begin })?;
+    printer.page.close()?;
+    printer.page.close()
 }
 
 /// Adds the meaning of the octets of an extension's value, or the octets if the extension is
@@ -106,5 +114,7 @@ fn push_value_of(
 /// Adds the octets of a value.
 pub fn push_unknown(page: &mut Page, inner: Inner<'_>) -> Result<(), AllocError> {
     page.text.push_str(", #")?;
-    push_digits(page, inner.octets)
+    let begin = page.text.len();
+    push_digits(page, inner.octets)?;
+    page.mark(PartName::Octets, begin)
 }

@@ -5,6 +5,7 @@ use crate::hexadecimal::push_digits;
 use crate::identifier_names::{ALGORITHMS, ATTRIBUTES, CURVES, EXTENSIONS, Named, PURPOSES};
 use crate::irregular::note_identifier;
 use crate::page::Page;
+use crate::part_name::PartName;
 use crate::printer::Printer;
 use std::alloc::{AllocError, Global};
 use std::fmt::Write;
@@ -19,6 +20,41 @@ pub fn push_identifier(printer: &mut Printer<'_>, identifier: &[u8]) -> Result<(
         Some(name) => write!(printer.page.text, " ({name})"),
         None => Ok(()),
     }
+}
+
+/// Adds the identifier in these contents octets as `push_identifier` does, and a part that is an
+/// object with the identifier and its name.
+pub fn push_identifier_part(
+    printer: &mut Printer<'_>,
+    part: PartName,
+    identifier: &[u8],
+) -> Result<(), AllocError> {
+    printer.page.open(part)?;
+    push_identifier_fields(printer, PartName::Id, identifier)?;
+    printer.page.close()
+}
+
+/// Adds the identifier in these contents octets as `push_identifier` does, and parts that are the
+/// identifier and its name.
+pub fn push_identifier_fields(
+    printer: &mut Printer<'_>,
+    part: PartName,
+    identifier: &[u8],
+) -> Result<(), AllocError> {
+    note_identifier(printer.page, identifier)?;
+    let dotted = dotted(printer.alloc, identifier)?;
+    printer.page.push_part(part, dotted.as_str())?;
+    match name_of(dotted.as_str()) {
+        Some(name) => push_name_field(printer.page, name),
+        None => Ok(()),
+    }
+}
+
+/// Adds the name of an identifier in brackets, and a part that is the name.
+fn push_name_field(page: &mut Page, name: &str) -> Result<(), AllocError> {
+    page.text.push_str(" (")?;
+    page.push_part(PartName::Name, name)?;
+    page.text.push(')')
 }
 
 /// Adds the name of an attribute's identifier, or else the identifier (RFC 4514 section 2.3).

@@ -1,6 +1,8 @@
 //! The items of a page as part of a JSON document, whose schema is `docs/certview.schema.json`.
 
 use crate::page::{Entry, ItemKind, Page, Said, Span};
+use crate::part_name::PartName;
+use crate::parts::{Part, PartKind};
 use crate::place::Place;
 use crate::quoted::quoted;
 use std::alloc::{AllocError, Global};
@@ -67,6 +69,7 @@ impl Json {
                 let name = quoted(alloc, entry.name())?;
                 let value = quoted(alloc, entry.value())?;
                 self.push_field(out, &place, name.as_str(), value.as_str())?;
+                push_extensions(alloc, out, entry)?;
                 let after = push_malformed(alloc, out, entry, said)?;
                 out.push('}')?;
                 return Ok(after);
@@ -216,6 +219,68 @@ fn fault_of(entry: &Entry<'_>, said: usize) -> Option<Said> {
         Some(fault) if fault.item == entry.index => Some(*fault),
         _ => None,
     }
+}
+
+/// Adds the extensions whose values a field has, each an object.
+fn push_extensions(alloc: Global, out: &mut String, entry: &Entry<'_>) -> Result<(), AllocError> {
+    let parts = entry.parts();
+    if parts.is_empty() {
+        return Ok(());
+    }
+    out.push_str(", \"extensions\": [")?;
+    let mut is_first = true;
+    for part in parts {
+        is_first = push_part(alloc, out, entry.page, part, is_first)?;
+    }
+    out.push(']')
+}
+
+/// Adds a part, after a comma if another one is before it in its object or list. Returns whether
+/// the next part is the first one of an object or a list.
+fn push_part(
+    alloc: Global,
+    out: &mut String,
+    page: &Page,
+    part: &Part,
+    is_first: bool,
+) -> Result<bool, AllocError> {
+    push_front(out, part, is_first)?;
+    match part.kind {
+        PartKind::Text(span) => {
+            let text = quoted(alloc, page.part(span))?;
+            out.push_str(text.as_str())?;
+        }
+        PartKind::Word(word) => push_quoted(out, word)?,
+        PartKind::Flag(true) => out.push_str("true")?,
+        PartKind::Flag(false) => out.push_str("false")?,
+        PartKind::Object => out.push('{')?,
+        PartKind::ObjectEnd => out.push('}')?,
+        PartKind::List => out.push('[')?,
+        PartKind::ListEnd => out.push(']')?,
+    }
+    Ok(part.kind == PartKind::Object || part.kind == PartKind::List)
+}
+
+/// Adds the comma before a part, and its name.
+fn push_front(out: &mut String, part: &Part, is_first: bool) -> Result<(), AllocError> {
+    if part.kind == PartKind::ObjectEnd || part.kind == PartKind::ListEnd {
+        return Ok(());
+    }
+    if !is_first {
+        out.push_str(", ")?;
+    }
+    if part.name == PartName::Item {
+        return Ok(());
+    }
+    push_quoted(out, part.name)?;
+    out.push_str(": ")
+}
+
+/// Adds the text of a name in quotes. It has letters and digits alone.
+fn push_quoted(out: &mut String, name: PartName) -> Result<(), AllocError> {
+    out.push('"')?;
+    out.push_str(name.text())?;
+    out.push('"')
 }
 
 /// Adds the errors of a field. `said` is the number of errors that earlier items have. Returns

@@ -3,7 +3,8 @@
 
 use crate::hexadecimal::{push_serial, push_with_colons};
 use crate::other_names::push_names;
-use crate::page::{Inner, push_malformed};
+use crate::page::{Inner, Page, push_malformed};
+use crate::part_name::PartName;
 use crate::printer::Printer;
 use der_asn1_types::FromDer;
 use der_extensions::extension::{AuthorityKeyIdentifier, SubjectKeyIdentifier};
@@ -13,9 +14,16 @@ use std::alloc::AllocError;
 pub fn push_subject_key(printer: &mut Printer<'_>, inner: Inner<'_>) -> Result<(), AllocError> {
     printer.push_str(", ")?;
     match SubjectKeyIdentifier::from_der(printer.alloc, inner.octets) {
-        Ok(identifier) => push_with_colons(printer.page, identifier.as_bytes()),
+        Ok(identifier) => push_key(printer.page, identifier.as_bytes()),
         Err(error) => push_malformed(printer.page, inner.begin, error),
     }
+}
+
+/// Adds the octets of the identifier of a key.
+fn push_key(page: &mut Page, octets: &[u8]) -> Result<(), AllocError> {
+    let begin = page.text.len();
+    push_with_colons(page, octets)?;
+    page.mark(PartName::KeyIdentifier, begin)
 }
 
 /// Adds the identifier of the issuer's key, and, if they are present, the issuer's names and the
@@ -33,15 +41,19 @@ fn push_authority(
 ) -> Result<(), AllocError> {
     if let Some(identifier) = authority.key_identifier() {
         printer.push_str(", ")?;
-        push_with_colons(printer.page, identifier.as_bytes())?;
+        push_key(printer.page, identifier.as_bytes())?;
     }
     if let Some(names) = authority.authority_cert_issuer() {
-        push_names(printer, "issuer ", names)?;
+        push_names(printer, PartName::AuthorityCertIssuer, "issuer ", names)?;
     }
     match authority.authority_cert_serial_number() {
         Some(number) => {
             printer.push_str(", serial number ")?;
-            push_serial(printer.page, number.as_bytes())
+            let begin = printer.page.text.len();
+            push_serial(printer.page, number.as_bytes())?;
+            printer
+                .page
+                .mark(PartName::AuthorityCertSerialNumber, begin)
         }
         None => Ok(()),
     }

@@ -32,6 +32,8 @@ mod key_sizes;
 pub mod names;
 pub mod other_names;
 pub mod page;
+pub mod part_name;
+pub mod parts;
 mod periods;
 pub mod place;
 mod points;

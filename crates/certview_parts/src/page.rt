@@ -4,6 +4,7 @@ use crate::asked::Asked;
 use crate::early::{EARLY, is_early};
 use crate::encoding_rules::words_of_ber;
 use crate::field_name::FieldName;
+use crate::parts::Part;
 use crate::place::Place;
 use der_asn1_types::{Error, ErrorKind, Tag};
 use std::alloc::{AllocError, Global};
@@ -17,6 +18,10 @@ pub struct Page {
     pub text: String,
     /// The items.
     pub items: Vec<Item>,
+    /// The named parts of the items' values, in the order of the items, if they are asked for.
+    pub parts: Vec<Part>,
+    /// Whether parts are asked for.
+    pub has_parts: bool,
     /// The errors, in the order of their items.
     pub faults: Vec<Said>,
     /// The words of the errors that the items do not show, one after another.
@@ -39,6 +44,8 @@ pub struct Item {
     pub begin: usize,
     /// The offset of its value in the text.
     pub value: usize,
+    /// The number of parts of the items before it.
+    pub parts: usize,
 }
 
 /// The kind of an item.
@@ -94,6 +101,8 @@ impl Page {
         Page {
             text: String::new(alloc),
             items: Vec::new(alloc),
+            parts: Vec::new(alloc),
+            has_parts: false,
             faults: Vec::new(alloc),
             notes: String::new(alloc),
             asked,
@@ -116,9 +125,7 @@ impl Page {
     pub fn begin(&mut self, kind: ItemKind, name: &str) -> Result<(), AllocError> {
         let begin = self.text.len();
         self.text.push_str(name)?;
-        let value = self.text.len();
-        self.items.push(Item { kind, begin, value })?;
-        Ok(())
+        self.add_item(kind, begin)
     }
 
     /// Begins a field with this byte range. The caller adds its value and a line feed to the
@@ -126,9 +133,18 @@ impl Page {
     pub fn begin_field(&mut self, field: FieldName, place: &Place) -> Result<(), AllocError> {
         let begin = self.text.len();
         field.push_label(&mut self.text)?;
-        let value = self.text.len();
-        let kind = ItemKind::Field(field, *place);
-        self.items.push(Item { kind, begin, value })?;
+        self.add_item(ItemKind::Field(field, *place), begin)
+    }
+
+    /// Adds an item whose name begins at this offset, and whose value begins at the end of the
+    /// text.
+    fn add_item(&mut self, kind: ItemKind, begin: usize) -> Result<(), AllocError> {
+        self.items.push(Item {
+            kind,
+            begin,
+            value: self.text.len(),
+            parts: self.parts.len(),
+        })?;
         Ok(())
     }
 
@@ -220,6 +236,16 @@ impl<'a> Entry<'a> {
             end,
         });
         value.strip_suffix("\n").unwrap_or(value)
+    }
+
+    /// Returns the named parts of the value.
+    pub fn parts(&self) -> &'a [Part] {
+        let end = match self.page.items.get(self.index.saturating_add(1)) {
+            Some(next) => next.parts,
+            None => self.page.parts.len(),
+        };
+        let parts = self.page.parts.as_slice();
+        parts.get(self.item.parts..end).unwrap_or(&[])
     }
 }
 

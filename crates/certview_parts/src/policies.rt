@@ -2,9 +2,10 @@
 //! 4.2.1.4 and 4.2.1.5).
 
 use crate::characters::Behind;
-use crate::identifiers::push_identifier;
+use crate::identifiers::push_identifier_part;
 use crate::names::push_value;
 use crate::page::Inner;
+use crate::part_name::PartName;
 use crate::printer::Printer;
 use der_asn1_types::asn1::AnyRef;
 use der_asn1_types::{Encode, ErrorKind, FromDer, Tag};
@@ -20,6 +21,7 @@ pub fn push_policies(printer: &mut Printer<'_>, inner: Inner<'_>) -> Result<(), 
         Ok(policies) => policies,
         Err(error) => return printer.push_malformed_value(inner, error),
     };
+    printer.page.open_list(PartName::Policies)?;
     for item in policies.items().iter(printer.alloc) {
         let Ok(policy) = item else {
             // The item was decoded before, so only memory can run out.
@@ -27,7 +29,7 @@ pub fn push_policies(printer: &mut Printer<'_>, inner: Inner<'_>) -> Result<(), 
         };
         push_policy(printer, &policy)?;
     }
-    Ok(())
+    printer.page.close_list()
 }
 
 fn push_policy(
@@ -35,18 +37,20 @@ fn push_policy(
     policy: &PolicyInformation<'_>,
 ) -> Result<(), AllocError> {
     printer.push_str(", ")?;
+    printer.page.open(PartName::Item)?;
     let identifier = policy.policy_identifier();
-    push_identifier(printer, identifier.as_bytes())?;
-    match policy.policy_qualifiers() {
-        Some(qualifiers) => push_qualifiers(printer, qualifiers.list()),
-        None => Ok(()),
+    push_identifier_part(printer, PartName::PolicyIdentifier, identifier.as_bytes())?;
+    if let Some(qualifiers) = policy.policy_qualifiers() {
+        push_qualifiers(printer, qualifiers.list())?;
     }
+    printer.page.close()
 }
 
 fn push_qualifiers<'a>(
     printer: &mut Printer<'_>,
     qualifiers: &ListRef<'a, PolicyQualifierInfo<'a>>,
 ) -> Result<(), AllocError> {
+    printer.page.open_list(PartName::PolicyQualifiers)?;
     for item in qualifiers.iter(printer.alloc) {
         let Ok(qualifier) = item else {
             // The item was decoded before, so only memory can run out.
@@ -54,7 +58,7 @@ fn push_qualifiers<'a>(
         };
         push_qualifier_info(printer, &qualifier)?;
     }
-    Ok(())
+    printer.page.close_list()
 }
 
 /// Adds the identifier of a qualifier, and its characters or its encoding.
@@ -63,17 +67,21 @@ fn push_qualifier_info(
     qualifier: &PolicyQualifierInfo<'_>,
 ) -> Result<(), AllocError> {
     printer.push_str(" with ")?;
+    printer.page.open(PartName::Item)?;
     let identifier = qualifier.policy_qualifier_id();
-    push_identifier(printer, identifier.as_bytes())?;
+    push_identifier_part(printer, PartName::PolicyQualifierId, identifier.as_bytes())?;
     printer.push(' ')?;
-    push_qualifier(printer, qualifier.qualifier())
+    printer.page.open_list(PartName::Qualifier)?;
+    push_qualifier(printer, qualifier.qualifier())?;
+    printer.page.close_list()?;
+    printer.page.close()
 }
 
 /// Adds a qualifier: its characters, or the characters of its parts if it is a user notice, which
 /// is a SEQUENCE.
 fn push_qualifier(printer: &mut Printer<'_>, qualifier: &AnyRef<'_>) -> Result<(), AllocError> {
     if qualifier.header().tag != Tag::Sequence {
-        return push_value(printer, qualifier, Behind::Word);
+        return push_text(printer, qualifier);
     }
     let Ok(octets) = qualifier.to_der(printer.alloc) else {
         return Err(AllocError);
@@ -81,7 +89,7 @@ fn push_qualifier(printer: &mut Printer<'_>, qualifier: &AnyRef<'_>) -> Result<(
     match Vec::<AnyRef<'_>>::from_der(printer.alloc, octets.as_slice()) {
         Ok(parts) => push_parts(printer, parts.as_slice()),
         Err(error) if error.kind() == ErrorKind::Memory => Err(AllocError),
-        Err(_) => push_value(printer, qualifier, Behind::Word),
+        Err(_) => push_text(printer, qualifier),
     }
 }
 
@@ -94,9 +102,16 @@ fn push_parts(printer: &mut Printer<'_>, parts: &[AnyRef<'_>]) -> Result<(), All
             printer.push_str(" and ")?;
         }
         is_first = false;
-        push_value(printer, part, Behind::Word)?;
+        push_text(printer, part)?;
     }
     Ok(())
+}
+
+/// Adds the characters or the encoding of a value, and a part that is an item of a list.
+fn push_text(printer: &mut Printer<'_>, value: &AnyRef<'_>) -> Result<(), AllocError> {
+    let begin = printer.page.text.len();
+    push_value(printer, value, Behind::Word)?;
+    printer.page.mark(PartName::Item, begin)
 }
 
 /// Adds the policies of the issuer and the policies of the subject that they are equivalent to.
@@ -105,6 +120,7 @@ pub fn push_mappings(printer: &mut Printer<'_>, inner: Inner<'_>) -> Result<(), 
         Ok(mappings) => mappings,
         Err(error) => return printer.push_malformed_value(inner, error),
     };
+    printer.page.open_list(PartName::Mappings)?;
     for item in mappings.items().iter(printer.alloc) {
         let Ok(mapping) = item else {
             // The item was decoded before, so only memory can run out.
@@ -112,7 +128,7 @@ pub fn push_mappings(printer: &mut Printer<'_>, inner: Inner<'_>) -> Result<(), 
         };
         push_mapping(printer, &mapping)?;
     }
-    Ok(())
+    printer.page.close_list()
 }
 
 fn push_mapping(printer: &mut Printer<'_>, mapping: &PolicyMapping<'_>) -> Result<(), AllocError> {
@@ -120,8 +136,10 @@ fn push_mapping(printer: &mut Printer<'_>, mapping: &PolicyMapping<'_>) -> Resul
         mapping.issuer_domain_policy(),
         mapping.subject_domain_policy(),
     );
+    printer.page.open(PartName::Item)?;
     printer.push_str(", issuer's ")?;
-    push_identifier(printer, issuer.as_bytes())?;
+    push_identifier_part(printer, PartName::IssuerDomainPolicy, issuer.as_bytes())?;
     printer.push_str(" is subject's ")?;
-    push_identifier(printer, subject.as_bytes())
+    push_identifier_part(printer, PartName::SubjectDomainPolicy, subject.as_bytes())?;
+    printer.page.close()
 }

@@ -3,9 +3,11 @@
 use crate::any_values::push_any;
 use crate::extensions::push_unknown;
 use crate::page::{Inner, Page, push_malformed};
+use crate::part_name::PartName;
 use crate::policies::push_policies;
 use crate::printer::Printer;
 use crate::transparency::push_stamps;
+use crate::usages::push_word;
 use crate::values::{contents, sizes};
 use der_asn1_types::asn1::{AnyRef, BitStringRef};
 use der_asn1_types::{FromDer, Tag};
@@ -89,23 +91,32 @@ pub fn push_private(
         MS_CA_VERSION => push_version(printer, inner),
         MS_POLICIES => push_policies(printer, inner),
         MS_TEMPLATE | ID_PKIX_OCSP_RESPONSE | TLS_FEATURE => push_each(printer, inner),
-        ID_POISON => push_one(printer, inner),
+        ID_POISON => push_single(printer, inner),
         ID_PKIX_OCSP_NONCE | ID_PKIX_OCSP_NOCHECK | ID_PKIX_OCSP_ARCHIVE_CUTOFF => {
-            push_one(printer, inner)
+            push_single(printer, inner)
         }
-        MS_TEMPLATE_NAME | MS_PREVIOUS_HASH | MS_NEXT_PUBLISH => push_one(printer, inner),
-        [front @ .., _] if front == NETSCAPE => push_one(printer, inner),
+        MS_TEMPLATE_NAME | MS_PREVIOUS_HASH | MS_NEXT_PUBLISH => push_single(printer, inner),
+        [front @ .., _] if front == NETSCAPE => push_single(printer, inner),
         _ => push_unknown(printer.page, inner),
     }
 }
 
-/// Adds a value whose tag gives its type.
+/// Adds a value whose tag gives its type, and a part that is a list of it alone.
+fn push_single(printer: &mut Printer<'_>, inner: Inner<'_>) -> Result<(), AllocError> {
+    printer.page.open_list(PartName::Values)?;
+    push_one(printer, inner)?;
+    printer.page.close_list()
+}
+
+/// Adds a value whose tag gives its type, and a part that is an item of a list.
 fn push_one(printer: &mut Printer<'_>, inner: Inner<'_>) -> Result<(), AllocError> {
     printer.push_str(", ")?;
     match AnyRef::from_der(printer.alloc, inner.octets) {
         Ok(value) => {
             let end = inner.begin.saturating_add(inner.octets.len());
-            push_any(printer, Some(end), &value)
+            let begin = printer.page.text.len();
+            push_any(printer, Some(end), &value)?;
+            printer.page.mark(PartName::Item, begin)
         }
         Err(error) => push_malformed(printer.page, inner.begin, error),
     }
@@ -114,10 +125,16 @@ fn push_one(printer: &mut Printer<'_>, inner: Inner<'_>) -> Result<(), AllocErro
 /// Adds each value of a SEQUENCE of values whose tags give their types.
 fn push_each(printer: &mut Printer<'_>, inner: Inner<'_>) -> Result<(), AllocError> {
     match AnyRef::from_der(printer.alloc, inner.octets) {
-        Ok(list) if list.header().tag == Tag::Sequence => push_items(printer, inner),
-        Ok(_) => push_one(printer, inner),
-        Err(_) => push_one(printer, inner),
+        Ok(list) if list.header().tag == Tag::Sequence => push_list(printer, inner),
+        Ok(_) => push_single(printer, inner),
+        Err(_) => push_single(printer, inner),
     }
+}
+
+fn push_list(printer: &mut Printer<'_>, inner: Inner<'_>) -> Result<(), AllocError> {
+    printer.page.open_list(PartName::Values)?;
+    push_items(printer, inner)?;
+    printer.page.close_list()
 }
 
 fn push_items(printer: &mut Printer<'_>, inner: Inner<'_>) -> Result<(), AllocError> {
@@ -144,7 +161,11 @@ fn push_items(printer: &mut Printer<'_>, inner: Inner<'_>) -> Result<(), AllocEr
 /// Adds the names of the set bits.
 fn push_netscape_type(printer: &mut Printer<'_>, inner: Inner<'_>) -> Result<(), AllocError> {
     match BitStringRef::from_der(printer.alloc, inner.octets) {
-        Ok(bits) => push_types(printer.page, bits.raw_bytes()),
+        Ok(bits) => {
+            printer.page.open_list(PartName::Types)?;
+            push_types(printer.page, bits.raw_bytes())?;
+            printer.page.close_list()
+        }
         Err(error) => printer.push_malformed_value(inner, error),
     }
 }
@@ -156,8 +177,7 @@ fn push_types(page: &mut Page, octets: &[u8]) -> Result<(), AllocError> {
     let mut bit = 0x80;
     for name in &NETSCAPE_TYPES {
         if *first & bit != 0 {
-            page.text.push_str(", ")?;
-            page.text.push_str(name)?;
+            push_word(page, name)?;
         }
         bit >>= 1;
     }
@@ -171,7 +191,9 @@ fn push_version(printer: &mut Printer<'_>, inner: Inner<'_>) -> Result<(), Alloc
     match u32::from_der(printer.alloc, inner.octets) {
         Ok(number) => {
             let (of_certificates, of_keys) = (number & 0xffff, number >> 16);
-            write!(printer.page.text, "V{of_certificates}.{of_keys}")
+            let begin = printer.page.text.len();
+            write!(printer.page.text, "V{of_certificates}.{of_keys}")?;
+            printer.page.mark(PartName::Version, begin)
         }
         Err(error) => push_malformed(printer.page, inner.begin, error),
     }

@@ -1,7 +1,8 @@
 //! The value of the extension nameConstraints as text (RFC 5280 section 4.2.1.10).
 
-use crate::other_names::push_other_name;
+use crate::other_names::push_name_part;
 use crate::page::{Inner, Page};
+use crate::part_name::PartName;
 use crate::printer::Printer;
 use der_asn1_types::FromDer;
 use der_extensions::extension::{GeneralSubtree, GeneralSubtrees, NameConstraints};
@@ -15,8 +16,13 @@ pub fn push_name_constraints(
 ) -> Result<(), AllocError> {
     match NameConstraints::from_der(printer.alloc, inner.octets) {
         Ok(constraints) => {
-            push_subtrees(printer, ", permitted ", constraints.permitted_subtrees())?;
-            push_subtrees(printer, ", excluded ", constraints.excluded_subtrees())
+            let (part, subtrees) = (
+                PartName::PermittedSubtrees,
+                constraints.permitted_subtrees(),
+            );
+            push_subtrees(printer, part, ", permitted ", subtrees)?;
+            let (part, subtrees) = (PartName::ExcludedSubtrees, constraints.excluded_subtrees());
+            push_subtrees(printer, part, ", excluded ", subtrees)
         }
         Err(error) => printer.push_malformed_value(inner, error),
     }
@@ -24,20 +30,23 @@ pub fn push_name_constraints(
 
 fn push_subtrees(
     printer: &mut Printer<'_>,
+    part: PartName,
     label: &str,
     subtrees: Option<&GeneralSubtrees<'_>>,
 ) -> Result<(), AllocError> {
     match subtrees {
-        Some(subtrees) => push_each(printer, label, subtrees),
+        Some(subtrees) => push_each(printer, part, label, subtrees),
         None => Ok(()),
     }
 }
 
 fn push_each(
     printer: &mut Printer<'_>,
+    part: PartName,
     label: &str,
     subtrees: &GeneralSubtrees<'_>,
 ) -> Result<(), AllocError> {
+    printer.page.open_list(part)?;
     for item in subtrees.items().iter(printer.alloc) {
         let Ok(subtree) = item else {
             // The item was decoded before, so only memory can run out.
@@ -45,7 +54,7 @@ fn push_each(
         };
         push_subtree(printer, label, &subtree)?;
     }
-    Ok(())
+    printer.page.close_list()
 }
 
 fn push_subtree(
@@ -54,17 +63,31 @@ fn push_subtree(
     subtree: &GeneralSubtree<'_>,
 ) -> Result<(), AllocError> {
     printer.push_str(label)?;
-    push_other_name(printer, subtree.base())?;
-    push_distances(printer.page, subtree.minimum(), subtree.maximum())
+    printer.page.open(PartName::Item)?;
+    push_name_part(printer, PartName::Base, subtree.base())?;
+    push_distances(printer.page, subtree.minimum(), subtree.maximum())?;
+    printer.page.close()
 }
 
 /// Adds the distances below the base at which the names begin and end, if they are given.
 fn push_distances(page: &mut Page, minimum: u8, maximum: Option<u8>) -> Result<(), AllocError> {
     if minimum > 0 {
-        write!(page.text, " from {minimum}")?;
+        push_distance(page, PartName::Minimum, " from ", minimum)?;
     }
     match maximum {
-        Some(maximum) => write!(page.text, " to {maximum}"),
+        Some(maximum) => push_distance(page, PartName::Maximum, " to ", maximum),
         None => Ok(()),
     }
+}
+
+fn push_distance(
+    page: &mut Page,
+    part: PartName,
+    label: &str,
+    distance: u8,
+) -> Result<(), AllocError> {
+    page.text.push_str(label)?;
+    let begin = page.text.len();
+    write!(page.text, "{distance}")?;
+    page.mark(part, begin)
 }

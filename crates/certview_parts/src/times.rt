@@ -2,6 +2,7 @@
 
 use crate::field_name::FieldName;
 use crate::page::Page;
+use crate::part_name::PartName;
 use crate::place::Place;
 use crate::printer::Printer;
 use der_asn1_types::DateTime;
@@ -43,6 +44,13 @@ pub fn push_time(page: &mut Page, time: &Time) -> Result<(), AllocError> {
 pub fn push_date_time(page: &mut Page, time: &DateTime) -> Result<(), AllocError> {
     push_seconds(page, time)?;
     page.text.push_str(" UTC")
+}
+
+/// Adds a date and time, and a part that is this text.
+pub fn push_time_part(page: &mut Page, part: PartName, time: &DateTime) -> Result<(), AllocError> {
+    let begin = page.text.len();
+    push_date_time(page, time)?;
+    page.mark(part, begin)
 }
 
 /// Adds a date and time to the second, without its zone.

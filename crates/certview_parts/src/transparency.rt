@@ -3,6 +3,7 @@
 
 use crate::hexadecimal::{push_digits, push_with_colons};
 use crate::page::{Inner, Page, push_malformed};
+use crate::part_name::PartName;
 use crate::printer::Printer;
 use der_asn1_types::asn1::OctetStringRef;
 use der_asn1_types::{DateTime, Error, ErrorKind, FromDer, Tag};
@@ -33,11 +34,18 @@ struct Stamp<'a> {
 pub fn push_stamps(printer: &mut Printer<'_>, inner: Inner<'_>) -> Result<(), AllocError> {
     match OctetStringRef::from_der(printer.alloc, inner.octets) {
         Ok(string) => match counted(string.as_bytes()) {
-            Some((list, [])) => push_each(printer.page, inner.begin, list),
+            Some((list, [])) => push_list(printer.page, inner.begin, list),
             _ => push_wrong(printer.page, inner.begin),
         },
         Err(error) => printer.push_malformed_value(inner, error),
     }
+}
+
+/// Adds the timestamps of a list, and a part that is the list of these.
+fn push_list(page: &mut Page, begin: usize, list: &[u8]) -> Result<(), AllocError> {
+    page.open_list(PartName::Timestamps)?;
+    push_each(page, begin, list)?;
+    page.close_list()
 }
 
 /// Adds the timestamps of a list, which must have at least one.
@@ -67,34 +75,77 @@ fn push_stamp(page: &mut Page, begin: usize, octets: &[u8]) -> Result<(), AllocE
             None => push_wrong(page, begin),
         },
         [version, rest @ ..] => {
-            write!(page.text, ", version {version} #")?;
-            push_digits(page, rest)
+            page.open(PartName::Item)?;
+            push_other_version(page, *version, rest)?;
+            page.close()
         }
         [] => push_wrong(page, begin),
     }
 }
 
+/// Adds the number and the octets of a timestamp of an unknown version.
+fn push_other_version(page: &mut Page, version: u8, octets: &[u8]) -> Result<(), AllocError> {
+    page.text.push_str(", version ")?;
+    let begin = page.text.len();
+    write!(page.text, "{version}")?;
+    page.mark(PartName::Version, begin)?;
+    page.text.push_str(" #")?;
+    push_octets(page, PartName::Octets, octets)
+}
+
+fn push_octets(page: &mut Page, part: PartName, octets: &[u8]) -> Result<(), AllocError> {
+    let begin = page.text.len();
+    push_digits(page, octets)?;
+    page.mark(part, begin)
+}
+
 /// Adds the version, the log, the time, the algorithm and the extensions.
 fn push_fields(page: &mut Page, stamp: &Stamp<'_>) -> Result<(), AllocError> {
-    page.text.push_str(", v1 of log ")?;
-    push_with_colons(page, stamp.log)?;
-    page.text.push(' ')?;
+    page.open(PartName::Item)?;
+    page.text.push_str(", ")?;
+    page.push_part(PartName::Version, "v1")?;
+    push_log(page, stamp.log)?;
     push_moment(page, stamp.milliseconds)?;
+    push_signature(page, stamp)?;
+    if !stamp.extensions.is_empty() {
+        page.text.push_str(" extensions #")?;
+        push_octets(page, PartName::Extensions, stamp.extensions)?;
+    }
+    page.close()
+}
+
+/// Adds the identifier of a log.
+fn push_log(page: &mut Page, log: &[u8]) -> Result<(), AllocError> {
+    page.text.push_str(" of log ")?;
+    let begin = page.text.len();
+    push_with_colons(page, log)?;
+    page.mark(PartName::Log, begin)
+}
+
+/// Adds the algorithm of a signature, and the number of its octets.
+fn push_signature(page: &mut Page, stamp: &Stamp<'_>) -> Result<(), AllocError> {
     page.text.push(' ')?;
+    let begin = page.text.len();
     push_named(page, &HASHES, stamp.hash)?;
     page.text.push('-')?;
     push_named(page, &SIGNATURES, stamp.algorithm)?;
-    let count = stamp.signature.len();
-    write!(page.text, " {count} octets")?;
-    if stamp.extensions.is_empty() {
-        return Ok(());
-    }
-    page.text.push_str(" extensions #")?;
-    push_digits(page, stamp.extensions)
+    page.mark(PartName::SignatureAlgorithm, begin)?;
+    page.text.push(' ')?;
+    let (begin, count) = (page.text.len(), stamp.signature.len());
+    write!(page.text, "{count} octets")?;
+    page.mark(PartName::Signature, begin)
+}
+
+/// Adds a time in milliseconds since 1970, and a part that is this text.
+fn push_moment(page: &mut Page, milliseconds: u64) -> Result<(), AllocError> {
+    page.text.push(' ')?;
+    let begin = page.text.len();
+    push_milliseconds(page, milliseconds)?;
+    page.mark(PartName::Time, begin)
 }
 
 /// Adds a time in milliseconds since 1970.
-fn push_moment(page: &mut Page, milliseconds: u64) -> Result<(), AllocError> {
+fn push_milliseconds(page: &mut Page, milliseconds: u64) -> Result<(), AllocError> {
     let parts = milliseconds % 1000;
     match DateTime::from_unix_duration(Duration::from_secs(milliseconds / 1000)) {
         Ok(time) => {

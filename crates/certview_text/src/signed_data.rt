@@ -2,6 +2,7 @@
 
 use crate::cms_certificates::{push_certificate_choices, push_revocations};
 use crate::keys::push_version;
+use crate::signed_content::push_signed_content;
 use crate::signers::push_signers;
 use crate::stamped::push_stamped;
 use certview_parts::algorithms::push_algorithm;
@@ -9,18 +10,20 @@ use certview_parts::field_name::FieldName;
 use certview_parts::place::Place;
 use certview_parts::printer::Printer;
 use certview_parts::rows::{push_identifier_row, push_length_row, push_malformed_row};
-use der_asn1_types::FromDer;
+use der_asn1_types::{ErrorKind, FromDer};
 use der_cms::cms::{EncapsulatedContentInfo, SignedData};
 use der_pkix::AlgorithmIdentifier;
 use der_time_stamp::time_stamp::constants::ID_CT_TST_INFO;
 use std::alloc::AllocError;
 
-/// Adds the fields of the SignedData in this byte range, one line each.
+/// Adds the fields of the SignedData in this byte range, one line each. If its content is no
+/// OCTET STRING, it is read as that of PKCS #7.
 pub fn push_signed_data(printer: &mut Printer<'_>, place: &Place) -> Result<(), AllocError> {
     let inner = printer.inner_at(place);
     match SignedData::from_der(printer.alloc, inner.octets) {
         Ok(signed) => push_fields(printer, place, &signed),
-        Err(error) => push_malformed_row(printer, place, FieldName::SignedData, inner.begin, error),
+        Err(error) if error.kind == ErrorKind::Memory => Err(AllocError),
+        Err(_) => push_signed_content(printer, place),
     }
 }
 
@@ -40,7 +43,7 @@ fn push_fields(
 }
 
 /// Adds a line for each digest algorithm of a set, in the order of the octets.
-fn push_digests(printer: &mut Printer<'_>, set: &Place) -> Result<(), AllocError> {
+pub fn push_digests(printer: &mut Printer<'_>, set: &Place) -> Result<(), AllocError> {
     let field = FieldName::DigestAlgorithm;
     let mut items = printer.items(set);
     for _ in 0..set.length {

@@ -145,6 +145,7 @@ pub fn show_refused<W: Write>(
     ensures { IfErr result (λ fault. fault ≢ Fault.Output → Keeps (W.contents output.old) (W.contents output.new)) }
 {
     let mut page = Page::new(alloc);
+    page.has_parts = view.form != Form::Text;
     push_remains(alloc, &mut page, view, fault, input)?;
     if view.form == Form::Text && !page.has_message() {
         return Ok(Outcome::Partial);
@@ -157,6 +158,7 @@ fn page_of(alloc: Global, view: &View<'_>, input: &[u8]) -> Result<Page, Fault>
     ensures { OnOk result (IsShown input.now) }
 {
     let mut page = Page::asking(alloc, view.asked);
+    page.has_parts = view.form != Form::Text;
     push_input(alloc, &mut page, view, input)?;
     Ok(page)
 }
@@ -184,7 +186,11 @@ pub fn text_of(alloc: Global, writer: Writer<'_>, page: &Page) -> Result<String,
 }
 
 /// Writes a text. A closed pipe is no error: no one reads on.
-fn write_text<W: Write>(output: &mut W, text: &str, outcome: Outcome) -> Result<Outcome, Fault>
+pub(crate) fn write_text<W: Write>(
+    output: &mut W,
+    text: &str,
+    outcome: Outcome,
+) -> Result<Outcome, Fault>
     ensures { IfErr result (λ fault. fault ≡ Fault.Output) }
 {
     match output.write_all(text.as_bytes()) {
