@@ -1,1 +1,1 @@
-"""Writes the lists of rules and of structs in C, Rust, Go and Python from asn1/rules.txt and asn1/structs.txt."""
+"""Writes the lists of rules, of steps and of structs in C, Rust, Go and Python from the tables of asn1."""

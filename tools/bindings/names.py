@@ -5,11 +5,14 @@ from __future__ import annotations
 import re
 
 from .tables.rules import Rule
+from .tables.steps import Step
 from .tables.structs import Field, Struct
 
 PART = re.compile(r"[A-Z][a-z]*|[0-9]+")
 KEYWORDS = frozenset(["type"])  # of Rust and of Go, of the fields' names
 FIRST_WORDS_IN_GO = {"tbs": "TBS", "crl": "CRL", "crls": "CRLs", "sid": "SID"}  # of fields' names in ASN.1
+INITIALS_IN_GO = {"Ca": "CA", "Ocsp": "OCSP"}  # of steps
+PREFIXES_IN_C = {"Step": "DER_STEP", "ListStep": "DER_LIST", "OcspStep": "DER_OCSP"}
 
 
 def capitals(name: str) -> str:
@@ -30,6 +33,17 @@ def rule_in_c(rule: Rule) -> str:
 
 def rule_in_go(rule: Rule) -> str:
     return rule.kind.capitalize() + rule.name
+
+
+def step_in_c(step: Step) -> str:
+    """DER_LIST_CA_CERTIFICATES of CaCertificates."""
+    return f"{PREFIXES_IN_C[step.enum]}_{capitals(step.name)}"
+
+
+def step_in_go(step: Step) -> tuple[str, str]:
+    """ListStepCACertificates of CaCertificates, and its type."""
+    type_, name = (PART.sub(lambda part: INITIALS_IN_GO.get(part[0], part[0]), it) for it in (step.enum, step.name))
+    return type_ + name, type_
 
 
 def field_in_rust(field: Field) -> str:

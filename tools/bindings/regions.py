@@ -11,7 +11,7 @@ from pathlib import Path
 
 from .errors import Difference
 
-MARK = re.compile(r"^ *(?:/\*|//|#|<!--) (written by tools/bindings:|end of) ([A-Za-z ]*[A-Za-z])", re.M)
+MARK = re.compile(r"^[ \t]*(?:/\*|//|#|<!--) (written by tools/bindings:|end of) ([A-Za-z ]*[A-Za-z])", re.M)
 
 
 def marks(text: str) -> list[tuple[int, bool, str]]:

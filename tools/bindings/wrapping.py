@@ -41,5 +41,5 @@ def call_in_rust(indent: str, head: str, parameters: list[str], tail: str) -> li
 
 def aligned(pairs: list[tuple[str, str]]) -> list[str]:
     """Lines with a comment behind each, which all begin in one column."""
-    column = max(len(code) for code, _ in pairs)
+    column = max((len(code) for code, _ in pairs), default=0)
     return [f"{code.ljust(column)} {comment}" for code, comment in pairs]

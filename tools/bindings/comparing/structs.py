@@ -13,8 +13,13 @@ from ..tables.structs import Field, Group, Struct
 from .listing import Entry, Listing, compare
 
 FOLDER = "crates/der_c/src"
+WRITING = f"{FOLDER}/building"
 PLACES = "crates/der_places/src"
-CALL = re.compile(r'^pub extern "C" fn der_(\w+)<\'a>\((?:(?!^\)).*\n)*?    out: &mut (\w+At|\w+Places),$', re.M)
+WRITES = re.compile(r'^pub extern "C" fn der_write_(\w+)<\'a>\((?:(?!^\)).*\n)*?    at: &(\w+At|\w+Places),$', re.M)
+BEFORE = r"    alloc: Global,\n    octets: &'a \[u8\],\n"
+CALL = re.compile(rf"^pub extern \"C\" fn der_(\w+)<'a>\(\n{BEFORE}    out: &mut (\w+At|\w+Places),$", re.M)
+NEXT = re.compile(rf"^pub extern \"C\" fn (der_next_\w+)<'a>\(\n{BEFORE}    left: &mut Place,\n    out: &mut (\w+),$", re.M)
+NEXT_FILE = f"{FOLDER}/next.rt"
 
 
 @dataclass(frozen=True)
@@ -34,7 +39,42 @@ def compare_structs(root: Path, structs: list[Struct]) -> list[Difference]:
             wrong += compare_struct(root, struct, calls[struct.name])
         else:
             wrong.append(Difference(FOLDER, 1, f"no call is der_{struct.name}"))
+    return wrong + compare_writings(root, structs, calls) + compare_next_calls(root, structs, calls)
+
+
+def compare_writings(root: Path, structs: list[Struct], calls: dict[str, Call]) -> list[Difference]:
+    """The calls that write a message: each takes the struct that the table says."""
+    found = writings_of(root)
+    expected = {writing.name: calls[struct.name].out for struct in structs if struct.name in calls for writing in struct.writings}
+    wrong = [Difference(call.file, 1, f"the table has no call der_write_{name}") for name, call in found.items() if name not in expected]
+    for name, struct in expected.items():
+        if name not in found:
+            wrong.append(Difference(WRITING, 1, f"no call is der_write_{name}"))
+        elif found[name].out != struct:
+            wrong.append(Difference(found[name].file, 1, f"der_write_{name} takes {found[name].out}, and the table has {struct}"))
     return wrong
+
+
+def compare_next_calls(root: Path, structs: list[Struct], calls: dict[str, Call]) -> list[Difference]:
+    """The calls that read one message after another write the same structs."""
+    text = text_of(root / NEXT_FILE)
+    found = {call[1]: (call[2], text.count("\n", 0, call.end()) + 1) for call in NEXT.finditer(text)}
+    expected = {it.next.name: calls[it.name].out for it in structs if it.next and it.next.is_written and it.name in calls}
+    wrong = [Difference(NEXT_FILE, 1, f"no call is {name}") for name in expected if name not in found]
+    for name, (out, line) in found.items():
+        if out != expected.get(name):
+            wrong.append(Difference(NEXT_FILE, line, f"{name} writes {out}, and is to write {expected.get(name, 'nothing')}"))
+    return wrong
+
+
+def writings_of(root: Path) -> dict[str, Call]:
+    """The calls that take a struct and write a message, by their names; `out` is the type of the struct."""
+    found = {}
+    for path in sorted((root / WRITING).glob("*.rt")):
+        text = text_of(path)
+        for name, at in WRITES.findall(text):
+            found[name] = Call(f"{WRITING}/{path.name}", text, at)
+    return found
 
 
 def names_of(structs: list[Struct]) -> list[str]:

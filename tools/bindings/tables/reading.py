@@ -3,12 +3,14 @@
 from __future__ import annotations
 
 import re
-from collections.abc import Iterable
+from collections.abc import Iterable, Sequence
+from dataclasses import replace
 
 from asn1.spelling import snake
 
 from .lines import Line, lines_of
 from .structs import ACCESS, SIZES, Field, Group, Next, Struct
+from .writings import Said, said_of, writing_of
 
 HEAD = re.compile(r"^([a-z][a-z0-9_]*): ([A-Z][\w-]+) \((RFC [^()|]+)\) \| ([^|]+)$")
 FILE = re.compile(r"^[a-z_]+$")
@@ -27,7 +29,14 @@ def structs_of(file: str, text: str) -> list[Struct]:
         if struct.name in [other.name for other in found]:
             raise head.error(f"another struct has the name {struct.name}")
         found.append(struct)
+        names = names_of_writings(found)
+        if len(set(names)) != len(names):
+            raise head.error(f"{struct.name}: another call that writes has this name")
     return found
+
+
+def names_of_writings(found: list[Struct]) -> list[str]:
+    return [writing.name for struct in found for writing in struct.writings]
 
 
 def blocks(lines: list[Line], depth: int) -> Iterable[tuple[Line, list[Line]]]:
@@ -45,11 +54,14 @@ def struct_of(head: Line, lines: list[Line]) -> Struct:
         raise head.error("a struct begins with 'NAME: TYPE (STANDARD) | what it is'")
     said: dict[str, list[str]] = {word: [] for word in WORDS}
     groups = []
+    written: list[Said] = []
     for line, deeper in blocks(lines, 1):
         key = KEY.match(line.text)
         if not key:
             raise line.error("a word and a colon stand here")
-        if key[1] not in said:
+        if key[1] == "writes":
+            written.append(said_of(line, deeper))
+        elif key[1] not in said:
             groups.append(group_of(line, key[1], key[2] or "", deeper))
         elif deeper or not key[2]:
             raise line.error(f"'{key[1]}:' has a text, and no fields")
@@ -60,7 +72,7 @@ def struct_of(head: Line, lines: list[Line]) -> Struct:
         tuple(said["note"]), "; ".join(said["results"]), tuple(groups),
     )
     check_struct(head, struct, said["reads"])
-    return struct
+    return replace(struct, writings=tuple(writing_of(it, struct) for it in written))
 
 
 def next_of(head: Line, name: str, said: dict[str, list[str]]) -> Next | None:
@@ -121,18 +133,18 @@ def check_struct(head: Line, struct: Struct, reads: list[str]) -> None:
     for is_wrong, problem in wrong:
         if is_wrong:
             raise head.error(f"{struct.name}: {problem}")
-    check_layout(head, struct)
+    check_layout(head, struct.name, struct.fields)
 
 
-def check_layout(head: Line, struct: Struct) -> None:
+def check_layout(head: Line, name: str, fields: Sequence[Field]) -> None:
     """No compiler leaves a gap between two fields, or after the last one."""
     offset = 0
-    for field in struct.fields:
+    for field in fields:
         if offset % alignment(field):
-            raise head.error(f"{struct.name}: there is a gap before {field.name}")
+            raise head.error(f"{name}: there is a gap before {field.name}")
         offset += SIZES[field.type]
-    if offset % max(alignment(field) for field in struct.fields):
-        raise head.error(f"{struct.name}: there is a gap after the last field")
+    if offset % max(alignment(field) for field in fields):
+        raise head.error(f"{name}: there is a gap after the last field")
 
 
 def alignment(field: Field) -> int:

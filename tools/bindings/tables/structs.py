@@ -44,6 +44,41 @@ class Next:
 
 
 @dataclass(frozen=True)
+class Part:
+    """A field that is written: whether it may be absent, how the packages take it, and of items the identifier octets."""
+
+    field: Field
+    within: str  # the field of the message that has it; '' of the message itself
+    is_optional: bool
+    kind: str
+    identifiers: tuple[int, ...]
+
+    @property
+    def name(self) -> str:
+        """Its name in Rust and Python."""
+        return self.field.name if self.field.is_place else self.field.name_elsewhere
+
+    @property
+    def name_in_asn1(self) -> str:
+        if self.field.is_place:
+            return self.field.name_elsewhere
+        first, *rest = self.name.split("_")
+        return first + "".join(part.capitalize() for part in rest)
+
+
+@dataclass(frozen=True)
+class Writing:
+    """A call that writes a message from the fields of a struct."""
+
+    name: str
+    type: str  # of ASN.1
+    standard: str
+    noun: str
+    struct: str  # the name of the struct
+    parts: tuple[Part, ...]
+
+
+@dataclass(frozen=True)
 class Struct:
     """A struct, with the call that writes it."""
 
@@ -58,6 +93,7 @@ class Struct:
     notes: tuple[str, ...]
     results: str
     groups: tuple[Group, ...]
+    writings: tuple[Writing, ...] = ()
 
     @property
     def places(self) -> list[Field]:

@@ -2,10 +2,11 @@
 
 from __future__ import annotations
 
-from ..command import RULES, STRUCTS
+from ..tables.tables import CHECKS, RULES, STEPS, STRUCTS
 from .test_lists import (
-    BITS, CALLS, CHECKED, FINDINGS, FUZZED, GO, HEADER, LISTS, LISTS_ANTT, PAGE, PLACES, PYTHON, RULES_ANTT, RUST, SAFE, SECTIONS, SYS, VERIFY,
-    WALK,
+    BITS, CALLS, CHECKED, FIELDS_IN_GO, FIELDS_IN_PYTHON, FIELDS_IN_RUST, FINDINGS, FUZZED, GO, HEADER, LISTS, LISTS_ANTT, LIST_STEP, LIST_STEPS_ANTT, NUMBERS, NUMBERS_ANTT,
+    OCSP_STEP, OCSP_STEPS_ANTT, PAGE, PLACES, PYTHON, REFUSAL, REFUSAL_ANTT, RULES_ANTT, RUST, SAFE, SECTIONS, STEP, STEPS_ANTT, STEPS_IN_GO, STEPS_IN_PYTHON, STEPS_IN_RUST, SYS,
+    TEXTS, VERIFY, WORDS, OCSP_STATUS_AT, PATH_AT, RESPONDER_AT,
 )
 from .tree import TreeTest
 
@@ -17,15 +18,21 @@ LAST = (
 )
 
 
-class ChangedRules(TreeTest):
+class ChangedTable(TreeTest):
+    """A change of one of the tables."""
+
+    table = RULES
+
     def assert_told(self, old: str, new: str, written: set[str], compared: set[str]) -> None:
         """Before the lists are written all of these files are told, and afterwards those of the crates alone."""
-        self.change(RULES, old, new)
+        self.change(self.table, old, new)
         self.assertEqual(self.files_told(), written | compared)
         self.run_tool()
         status, lines = self.run_tool("--check")
         self.assertEqual((status, {line.split(":")[0] for line in lines}), (1 if compared else 0, compared))
 
+
+class ChangedRules(ChangedTable):
     def test_another_name(self) -> None:
         compared = {LISTS, LISTS_ANTT, SECTIONS, BITS, FINDINGS}
         self.assert_told(SYNONYM, SYNONYM.replace("IsThere", "Stands"), LANGUAGES | {PAGE}, compared)
@@ -67,6 +74,64 @@ class ChangedRules(TreeTest):
         self.assertEqual(self.run_tool(), (1, [f"{RULES}:{line}: error: the next rule of this kind has bit 3, not 4"]))
 
 
+class ChangedSteps(ChangedTable):
+    table = STEPS
+    CA = "certificate | 7 | Ca | 6.1.4 (k) | not of version 3, or not a CA's\n"
+    LAST_OF_LIST = "list | 12 | NoNewReasons | 6.3.3 (e) | the list has no reason\n"
+    LAST = "answer | 5 | NoResponder | 3.2 (4) | the answer names nobody who may sign it (4.2.2.2)\n"
+    OF_CHAINS = {HEADER, STEPS_IN_RUST[0], STEPS_IN_GO[0], STEPS_IN_PYTHON[0]}
+    OF_STATUS = {HEADER, STEPS_IN_RUST[1], STEPS_IN_GO[1], STEPS_IN_PYTHON[1]}
+
+    def test_another_name(self) -> None:
+        compared = {STEP, STEPS_ANTT, REFUSAL, REFUSAL_ANTT, WORDS}
+        self.assert_told(self.CA, self.CA.replace("| Ca |", "| IsCa |"), self.OF_CHAINS | {TEXTS}, compared)
+
+    def test_another_section(self) -> None:
+        self.assert_told(self.CA, self.CA.replace("(k)", "(l)"), self.OF_CHAINS | {TEXTS}, {STEP, STEPS_ANTT})
+
+    def test_another_phrase(self) -> None:
+        self.assert_told(self.LAST_OF_LIST, self.LAST_OF_LIST.replace("no reason", "no reason more"), self.OF_STATUS, set())
+
+    def test_a_step_more_for_lists(self) -> None:
+        more = self.LAST_OF_LIST + "list | 13 | ZeroNumber | 5.2.3 | the list has the number 0\n"
+        compared = {LIST_STEP, LIST_STEPS_ANTT, NUMBERS, NUMBERS_ANTT}
+        self.assert_told(self.LAST_OF_LIST, more, self.OF_STATUS | {TEXTS}, compared)
+
+    def test_a_step_less_for_answers(self) -> None:
+        self.assert_told(self.LAST, "", self.OF_STATUS | {TEXTS}, {OCSP_STEP, OCSP_STEPS_ANTT, NUMBERS, NUMBERS_ANTT})
+
+    def test_a_table_that_cannot_be_read(self) -> None:
+        line = self.change(STEPS, self.CA, self.CA.replace("| 7 |", "| 8 |"))
+        self.assertEqual(self.run_tool(), (1, [f"{STEPS}:{line}: error: the next step of this kind has number 7, not 8"]))
+
+
+class ChangedChecks(ChangedTable):
+    table = CHECKS
+    LENGTH = "        key_hash_len u64 how many octets the hash value of the responder's key has\n"
+    STATUS = "        cert_status_number=status u32 "
+
+    def test_another_name(self) -> None:
+        self.assert_told("        policy_count u64 ", "        count_of_policies u64 ", {HEADER, SYS}, {PATH_AT})
+
+    def test_another_name_in_c(self) -> None:
+        self.assert_told(self.STATUS, "        status u32 ", {HEADER}, set())
+
+    def test_another_type(self) -> None:
+        self.assert_told(self.LENGTH, self.LENGTH.replace("u64", "place"), {HEADER, SYS}, {OCSP_STATUS_AT})
+
+    def test_another_phrase(self) -> None:
+        self.assert_told(self.LENGTH, self.LENGTH.replace("how many", "the count of"), {HEADER, SYS}, set())
+
+    def test_a_struct_less(self) -> None:
+        text = self.text(CHECKS)
+        old = text[text.index("    responder_at: ") : text.index("    ocsp_status_at: ")]
+        self.assert_told(old, "", {HEADER, SYS}, {RESPONDER_AT})
+
+    def test_a_struct_more(self) -> None:
+        more = "    key_at: KeyAt | A key\n        key place a SubjectPublicKeyInfo\n    ocsp_status_at: "
+        self.assert_told("    ocsp_status_at: ", more, {HEADER, SYS}, {"crates/der_c/src/path"})
+
+
 class ChangedStructs(TreeTest):
     INNER = {"rust/der-proved/src/inner.rs", "go/der/inner.go", "python/src/derproved/_inner.py"}
     C_OF_PYTHON = {"python/src/derproved/classes.h", "python/src/derproved/message.c", "python/src/derproved/_der.pyi"}
@@ -97,7 +162,17 @@ class ChangedStructs(TreeTest):
 
     def test_another_number(self) -> None:
         self.change(STRUCTS, "        response_status_number i64", "        response_status_number u64")
-        self.assertEqual(self.files_told(), {HEADER, SYS, "crates/der_c/src/ocsp_response.rt"})
+        expected = {HEADER, SYS, FIELDS_IN_GO, FIELDS_IN_RUST, "crates/der_c/src/ocsp_response.rt"}
+        self.assertEqual(self.files_told(), expected)
+
+    def test_a_field_more_that_is_written(self) -> None:
+        self.change(STRUCTS, "        requestorName optional field\n", "        version optional field\n        requestorName optional field\n")
+        self.assertEqual(self.files_told(), {FIELDS_IN_GO, FIELDS_IN_PYTHON, FIELDS_IN_RUST})
+
+    def test_a_call_less_that_writes(self) -> None:
+        self.change(STRUCTS, "    writes: ocsp_request\n        tbsRequest field\n        optionalSignature optional field\n", "")
+        expected = {CHECKED, SYS, SAFE, FIELDS_IN_GO, FIELDS_IN_PYTHON, FIELDS_IN_RUST, "python/src/derproved/writing.c"}
+        self.assertEqual(self.files_told(), expected | {"crates/der_c/src/building/ocsp_request.rt"})
 
     def test_another_member(self) -> None:
         self.change(STRUCTS, "    info: CertificationRequestInfoPlaces", "    tbs: CertificationRequestInfoPlaces")
@@ -126,7 +201,7 @@ class ChangedStructs(TreeTest):
         start = text.index("attribute: Attribute ")
         end = text.index("algorithm_identifier: ")
         self.change(STRUCTS, text[start:end], "")
-        expected = {HEADER, CHECKED, WALK, CALLS, FUZZED, SYS, SAFE, PLACES, PYTHON, "docs/C.md", "crates/der_c/src/attribute.rt", *self.C_OF_PYTHON}
+        expected = {HEADER, CHECKED, CALLS, FUZZED, SYS, SAFE, PLACES, PYTHON, "docs/C.md", "crates/der_c/src/attribute.rt", "crates/der_c/src/next.rt", *self.C_OF_PYTHON}
         self.assertEqual(self.files_told(), expected | {"rust/der-proved/src/attribute.rs", "go/der/attribute.go"})
 
     def test_a_struct_more(self) -> None:

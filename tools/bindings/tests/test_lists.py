@@ -8,7 +8,6 @@ HEADER = "c/include/barleypulley/der.h"
 CALLS = "c/tests/calls.c"
 FUZZED = "c/tests/fuzz_inner.c"
 CHECKED = "c/checked.c"
-WALK = "c/walk.c"
 SYS = "rust/der-proved-sys/src/lib.rs"
 SAFE = "rust/der-proved-sys/src/safe.rs"
 RUST = "rust/der-proved/src/rules.rs"
@@ -23,7 +22,30 @@ SECTIONS = "crates/der_verify/specs/Sections.antt"
 RULES_ANTT = "crates/der_verify/specs/Rfc5280.antt"
 LISTS_ANTT = "crates/der_verify/specs/Rfc5280Lists.antt"
 BITS = "crates/der_c/src/rfc5280.rt"
+NEXT = "crates/der_c/src/next.rt"
 FINDINGS = "crates/certview_text/src/findings.rt"
+FIELDS_IN_RUST = "rust/der-proved/src/fields.rs"
+FIELDS_IN_GO = "go/der/fields.go"
+FIELDS_IN_PYTHON = "python/src/derproved/_fields.py"
+WRITTEN_EXTENSION = "crates/der_c/src/building/extension.rt"
+TEXTS = "c/texts.c"
+STEPS_IN_RUST = ("rust/der-proved/src/path.rs", "rust/der-proved/src/status.rs")
+STEPS_IN_GO = ("go/der/path.go", "go/der/status.go")
+STEPS_IN_PYTHON = ("python/src/derproved/_path.py", "python/src/derproved/_status.py")
+STEP = "crates/der_path/src/step.rt"
+LIST_STEP = "crates/der_path/src/list_step.rt"
+OCSP_STEP = "crates/der_path/src/ocsp_step.rt"
+STEPS_ANTT = "crates/der_path/specs/Steps.antt"
+LIST_STEPS_ANTT = "crates/der_path/specs/ListSteps.antt"
+OCSP_STEPS_ANTT = "crates/der_path/specs/OcspSteps.antt"
+REFUSAL = "crates/der_c/src/path/refusal.rt"
+NUMBERS = "crates/der_c/src/revocation/numbers.rt"
+REFUSAL_ANTT = "crates/der_c/specs/ChainFaults.antt"
+NUMBERS_ANTT = "crates/der_c/specs/StatusNumbers.antt"
+WORDS = "crates/certview_text/src/steps.rt"
+PATH_AT = "crates/der_c/src/path/written.rt"
+OCSP_STATUS_AT = "crates/der_c/src/revocation/answer.rt"
+RESPONDER_AT = "crates/der_c/src/revocation/responders.rt"
 
 # file, a text that stands there once, another text, and how many lines below the text's first line it is told
 WRITTEN = [
@@ -34,8 +56,7 @@ WRITTEN = [
     (HEADER, "uint32_t der_content_info(const", "uint32_t der_content(const", 0),
     (HEADER, "uint32_t der_next_extension(", "uint32_t der_next(", 0),
     (CHECKED, "CHECKED(extension, der_extension_at)\n", "", 0),
-    (WALK, "NEXT(single_response, der_single_response_at, 6)", "NEXT(single_response, der_single_response_at, 5)", 0),
-    (WALK, "NEXT_ENCODING(request, der_request_at, 2)", "NEXT_ENCODING(request, der_request_at, 3)", 0),
+    (CHECKED, "CHECKED_NEXT(request, der_request_at)", "CHECKED_NEXT(request, der_cert_id_at)", 0),
     (CALLS, "REFUSES(der_pfx_at, der_pfx)", "REFUSES(der_pfx_at, der_mac_data)", 0),
     (FUZZED, "INNER(pfx, der_pfx_at)", "INNER(pfx, der_mac_data_at)", 0),
     (FUZZED, "ITEMS(der_next_request,", "ITEMS(der_next_extension,", 0),
@@ -66,8 +87,36 @@ WRITTEN = [
     (PYTHON, "    serial_number = _der.field(4,", "    serial_number = _der.field(3,", 0),
     (PYTHON, "    e_content = _der.optional(", "    e_content = _der.field(", 0),
     ("docs/C.md", "3 fields and 10 of `tbsCertificate`", "3 fields and 9 of `tbsCertificate`", 0),
+    (CHECKED, "WRITES(extension, der_extension_at)\n", "", 0),
+    (SYS, "    pub fn der_write_extension(", "    pub fn der_write_extensions(", 0),
+    (SAFE, "    write_extension: der_write_extension <- crate::ExtensionAt,\n", "", 0),
+    (FIELDS_IN_RUST, "room.optional_items(it.crl_extensions, &[0x30, 0xa0])", "room.items(it.crl_extensions, &[0x30, 0xa0])", 0),
+    (FIELDS_IN_GO, "fields.CRLExtensions, 0x30, 0xa0)", "fields.CRLExtensions, 0x30, 0xa1)", 0),
+    (FIELDS_IN_PYTHON, "optional_items(crl_extensions, 0x30, 0xA0)", "optional_items(crl_extensions, 0x30)", 0),
+    ("python/src/derproved/writing.c", "A(cert_id, cert_id, 4, 0)", "A(cert_id, cert_id, 3, 0)", 0),
+    (HEADER, "    uint64_t refused_index; /* which certificate", "    uint32_t refused_index; /* which certificate", 0),
+    (HEADER, "sizeof(der_responder_at) == 16", "sizeof(der_responder_at) == 24", 0),
+    (HEADER, "DER_ASSERT(offsetof(der_path_inputs, mapping_inhibit) == 40, \"after 4 places and 1 number of 64 bits\");\n", "", 0),
+    (SYS, "    pub any_policy_inhibit: u32,", "    pub any_policy: u32,", 0),
+    (SYS, "size_of::<OcspStatusAt>() == 56", "size_of::<OcspStatusAt>() == 64", 0),
+    (HEADER, "    DER_STEP_CA = 7, ", "    DER_STEP_CA = 8, ", 0),
+    (HEADER, "    DER_LIST_ISSUER = 5, ", "    DER_LIST_ITS_ISSUER = 5, ", 0),
+    (HEADER, "/* 3.2 (5): the status", "/* 3.2 (6): the status", 0),
+    (TEXTS, '[DER_STEP_CA] = "6.1.4 (k)"', '[DER_STEP_CA] = "6.1.4 (l)"', 0),
+    (TEXTS, '        [DER_LIST_THIS_UPDATE] = "5.1.2.4",\n', "", 0),
+    (TEXTS, '[DER_OCSP_NO_RESPONDER] = "3.2 (4)"', '[DER_OCSP_NO_RESPONDER] = "4.2.2.2"', 0),
+    (STEPS_IN_RUST[0], "        Ca = 7,\n", "        CA = 7,\n", 0),
+    (STEPS_IN_RUST[1], "        ThisUpdate = 10,", "        ThisUpdate = 11,", 0),
+    (STEPS_IN_RUST[1], "/// 3.2 (1): the answer is about other", "/// 3.2 (1): the answer is of other", 0),
+    (STEPS_IN_GO[0], "\tStepCA Step = 7\n", "\tStepCa Step = 7\n", 0),
+    (STEPS_IN_GO[1], "\tListStepNoNewReasons ListStep = 12\n", "", 0),
+    (STEPS_IN_GO[1], "\tOCSPStepNotAnswered OCSPStep = 2\n", "\tOCSPStepNotAnswered ListStep = 2\n", 0),
+    (STEPS_IN_PYTHON[0], "    CA = 7\n", "    CA = 6\n", 0),
+    (STEPS_IN_PYTHON[1], "    DELTA = 1\n", "    A_DELTA = 1\n", 0),
+    (STEPS_IN_PYTHON[1], '    """3.2 (6): newer information is available at the moment."""\n', "", 0),
 ]
 COMPARED = [
+    (NEXT, "    out: &mut RequestPlaces,", "    out: &mut CertIdPlaces,", 0),
     (VERIFY, "    IssuerIsNotEmpty,\n", "    IssuerIsThere,\n", 0),
     (VERIFY, "/// The issuer is not empty (4.1.2.4).", "/// The issuer is not empty (4.1.2.5).", 1),
     (VERIFY, "    CertificateRule::IssuerIsNotEmpty,\n", "", 0),
@@ -98,6 +147,32 @@ COMPARED = [
      "pub struct AttributeAt", None),
     ("crates/der_places/src/cms/signer_info.rt", "    pub sid: Place,", "    pub signer: Place,", 0),
     ("docs/C.md", "which of 23 rules", "which of 24 rules", 0),
+    (WRITTEN_EXTENSION, "fn der_write_extension<", "fn der_write_one<", None),
+    (PATH_AT, "    pub policies_len: u64,", "    pub policies_len: u32,", 0),
+    (OCSP_STATUS_AT, "    pub key_hash_len: u64,\n", "", 1),
+    (OCSP_STATUS_AT, "    pub has_key_hash: u32,", "    pub names_key: u32,", 0),
+    (RESPONDER_AT, "#[repr(C)]\n#[derive(Clone, Copy, Debug, PartialEq, Eq)]\npub struct ResponderAt ",
+     "#[repr(C)]\n#[derive(Clone, Copy, Debug, PartialEq, Eq)]\npub struct SignerAt ", 2),
+    (STEP, "    PathLength,\n", "    PathIsLong,\n", 0),
+    (STEP, "    /// 6.1.4 (n): keyUsage", "    /// 6.1.4 (o): keyUsage", 1),
+    (STEP, 'Step::Policies => "6.1.3 (f)",', 'Step::Policies => "6.1.5 (g)",', 0),
+    (LIST_STEP, "    NoNewReasons,\n}", "    NoNewReasons,\n    /// 5.2: more.\n    More,\n}", 2),
+    (LIST_STEP, '            ListStep::Delta => "5.2.4",\n', "", 0),
+    (OCSP_STEP, "    NotAnswered,\n", "    NotAsked,\n", 0),
+    (OCSP_STEP, 'OcspStep::NoResponder => "3.2 (4)",', 'OcspStep::NoResponder => "3.2 (3)",', 0),
+    (STEPS_ANTT, 'letter step.Ca = codes "6.1.4 (k)"', 'letter step.Ca = codes "6.1.4 (l)"', 0),
+    (LIST_STEPS_ANTT, 'list_letter step.UnreadEntry = codes "5.3"\n', "", 0),
+    (OCSP_STEPS_ANTT, 'step.ThisUpdate = codes "3.2 (5)"', 'step.ThisUpdate = codes "3.2 (6)"', 0),
+    (REFUSAL, "        Step::Permitted => 3,\n        Step::Excluded => 4,\n", "        Step::Excluded => 4,\n        Step::Permitted => 3,\n", 0),
+    (REFUSAL, "        Step::UserPolicies => 12,\n", "        Step::UserPolicies => 12,\n        Step::More => 13,\n", 1),
+    (NUMBERS, "ListStep::NextUpdate => 11,", "ListStep::NextUpdate => 10,", 0),
+    (NUMBERS, "        OcspStep::NoResponder => 5,\n", "", 0),
+    (REFUSAL_ANTT, "number_of_step step.Ca = 7\n", "number_of_step step.Ca = 8\n", 0),
+    (NUMBERS_ANTT, "number_of_list_step step.Delta = 1\n", "", 0),
+    (NUMBERS_ANTT, "number_of_ocsp_step ocsp_step.NextUpdate = 4", "number_of_ocsp_step ocsp_step.NextUpdate = 5", 0),
+    (WORDS, "        Step::Ca => \"", "        Step::Authority => \"", 0),
+    (WORDS, "Step::UnknownExtension | Step::UnknownExtensionAtEnd =>", "Step::UnknownExtensionAtEnd =>", None),
+    (WRITTEN_EXTENSION, "    octets: &'a [u8],\n    at: &ExtensionAt,", "    octets: &'a [u8],\n    at: &CertificateAt,", None),
 ]
 
 

@@ -4,8 +4,9 @@ from __future__ import annotations
 
 import unittest
 
-from ..names import camel, capitals, field_in_go, field_in_rust, field_of_c_in_go, rule_in_c, rule_in_go, with_article
+from ..names import camel, capitals, field_in_go, field_in_rust, field_of_c_in_go, rule_in_c, rule_in_go, step_in_c, step_in_go, with_article
 from ..tables.rules import Rule, rules_of
+from ..tables.steps import Step
 from ..tables.structs import Field
 from ..wrapping import WIDTH, aligned, call_in_c, call_in_rust, comment_in_c
 from ..writers.structs_in_c import counted
@@ -27,6 +28,14 @@ class Names(unittest.TestCase):
         self.assertEqual(rule_in_c(rule("IssuerIsNotEmpty", " | C: ISSUER")), "DER_LIST_ISSUER")
         self.assertEqual(rule_in_c(rule("IsNotEmpty")), "DER_LIST_IS_NOT_EMPTY")
         self.assertEqual(rule_in_go(rule("IssuerIsNotEmpty")), "ListIssuerIsNotEmpty")
+
+    def test_of_steps(self) -> None:
+        ca, unknown = (Step("certificate", 7, name, "6.1.4 (k)", "not a CA's") for name in ("Ca", "UnknownExtensionAtEnd"))
+        self.assertEqual((step_in_c(ca), step_in_go(ca)), ("DER_STEP_CA", ("StepCA", "Step")))
+        self.assertEqual((step_in_c(unknown), step_in_go(unknown)[0]), ("DER_STEP_UNKNOWN_EXTENSION_AT_END", "StepUnknownExtensionAtEnd"))
+        of_list, answer = (Step(kind, 8, "CaCertificates", "5.2", "it has CAs alone") for kind in ("list", "answer"))
+        self.assertEqual((step_in_c(of_list), step_in_go(of_list)), ("DER_LIST_CA_CERTIFICATES", ("ListStepCACertificates", "ListStep")))
+        self.assertEqual((step_in_c(answer), step_in_go(answer)), ("DER_OCSP_CA_CERTIFICATES", ("OCSPStepCACertificates", "OCSPStep")))
 
     def test_of_structs(self) -> None:
         self.assertEqual(camel("certificate_list"), "CertificateList")

@@ -21,7 +21,7 @@ class Parts(unittest.TestCase):
         self.assertEqual(replaced("file", TEXT, {"rules": []}), TEXT.replace("\nb\n", "\n"))
 
     def test_the_comments_of_each_language(self) -> None:
-        for begin, end in (("/* ", " */"), ("// ", ""), ("    // ", ""), ("# ", ""), ("<!-- ", " -->")):
+        for begin, end in (("/* ", " */"), ("// ", ""), ("    // ", ""), ("\t// ", ""), ("# ", ""), ("<!-- ", " -->")):
             text = f"{begin}written by tools/bindings: next calls{end}\n{begin}end of next calls{end}\n"
             self.assertEqual(marks(text), [(0, True, "next calls"), (1, False, "next calls")])
 

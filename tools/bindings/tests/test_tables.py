@@ -5,11 +5,15 @@ from __future__ import annotations
 import unittest
 
 from ..errors import TableError
+from ..tables.checks import checks_of, of_call
 from ..tables.reading import structs_of
 from ..tables.rules import rules_of
+from ..tables.steps import steps_of
 
 FIRST = "certificate | 0 | AlgorithmsAgree | 4.1.1.2, 4.1.2.3 | The algorithms agree | two algorithms\n"
 SECOND = "certificate | 1 | IssuerIsNotEmpty | 4.1.2.4 | The issuer is not empty | an empty issuer | C: ISSUER\n"
+
+STEP = "list | 1 | UserCertificates | 6.3.3 (b)(2)(ii) | it has end entities alone\n"
 
 HEAD = "key: Key (RFC 1 2.3) | key\n"
 FILE = "    file: keys\n"
@@ -69,6 +73,63 @@ class Rules(Refused):
         lines = [f"list | {at} | {names[at % 26] * (1 + at // 26)} | 5.1 | It holds | nothing\n" for at in range(65)]
         self.assertEqual(len(rules_of("table.txt", "".join(lines[:64]))), 64)
         self.assertEqual(self.refused(rules_of, "".join(lines)), "65 a number of 64 bits has no bit for this rule")
+
+
+class Steps(Refused):
+    def test_a_table(self) -> None:
+        first, second = steps_of("table.txt", f"# steps\n\n{STEP}answer | 1 | ThisUpdate | 4.4 | it is late\n")
+        self.assertEqual((first.kind, first.number, first.name, first.enum), ("list", 1, "UserCertificates", "ListStep"))
+        self.assertEqual((first.section, first.phrase), ("6.3.3 (b)(2)(ii)", "it has end entities alone"))
+        self.assertEqual((second.number, second.enum, second.section), (1, "OcspStep", "4.4"))
+
+    def test_what_is_refused(self) -> None:
+        for old, new, expected in [
+            ("list |", "chain |", "a step refuses a certificate, a list or an answer"),
+            ("| 1 |", "| one |", "the second part is the step's number"),
+            ("| 1 |", "| 0 |", "the next step of this kind has number 1, not 0"),
+            ("| 1 |", "| 2 |", "the next step of this kind has number 1, not 2"),
+            ("UserCertificates", "user_certificates", "user_certificates is no name of a variant"),
+            ("6.3.3 (b)", "section (b)", "section (b)(2)(ii) is no section with a letter or a number"),
+            ("(ii)", "(ii", "6.3.3 (b)(2)(ii is no section with a letter or a number"),
+            ("alone", "alone.", "the phrase has no full stop"),
+            (" | it has end entities alone", "", "a step has five parts"),
+            ("alone", "alone | more", "a step has five parts"),
+        ]:
+            with self.subTest(new=new):
+                self.assertEqual(self.refused(steps_of, f"# a comment\n{STEP.replace(old, new, 1)}"), f"2 {expected}")
+
+    def test_one_name_twice(self) -> None:
+        self.assertEqual(self.refused(steps_of, STEP + STEP.replace("| 1 |", "| 2 |")), "2 another step has the name UserCertificates")
+
+
+class Checks(Refused):
+    HEAD = "list_status\n    list_at: ListAt | What it says\n"
+    FIELDS = "        date_seconds u64 when\n        status_number=status u32 0 or 1\n        reserved u32 0\n"
+
+    def test_a_table(self) -> None:
+        (check,) = checks_of("table.txt", self.HEAD + self.FIELDS)
+        self.assertEqual((check.call, check.name, check.type, check.sentence, check.size), ("list_status", "list_at", "ListAt", "What it says", 16))
+        self.assertEqual([(it.name, it.name_elsewhere, it.type, it.phrase) for it in check.fields], [
+            ("date_seconds", "date", "u64", "when"), ("status_number", "status", "u32", "0 or 1"), ("reserved", "reserved", "u32", "0"),
+        ])
+        self.assertEqual((of_call([check], "list_status"), of_call([check], "check_path")), ([check], []))
+
+    def test_what_is_refused(self) -> None:
+        of_a_call = "one of check_path, list_status, revocation_status, ocsp_status stands here, each once"
+        for text, expected in [
+            (self.HEAD.replace("list_status", "status") + self.FIELDS, f"1 {of_a_call}"),
+            ((self.HEAD + self.FIELDS) * 2, f"6 {of_a_call}"),
+            (self.HEAD + self.FIELDS + (self.HEAD + self.FIELDS).split("\n", 1)[1], "1 list_status: two structs have one name"),
+            (self.HEAD.replace(" | What it says", "") + self.FIELDS, "2 a struct begins with 'NAME: STRUCT | what it is'"),
+            (self.HEAD, "2 list_at: it has no fields"),
+            (self.HEAD + self.FIELDS + "        reserved u64 0\n", "2 list_at: two fields have one name"),
+            (self.HEAD + "        a u32 one\n" + self.FIELDS, "2 list_at: there is a gap before date_seconds"),
+            (self.HEAD + self.FIELDS + "        more u32 0\n", "2 list_at: there is a gap after the last field"),
+            (self.HEAD + "        date i64 when\n", "3 a field has a name in C, a type (place, u32 or u64) and a phrase"),
+            (self.HEAD + "        date u64 when.\n", "3 a phrase has no full stop"),
+        ]:
+            with self.subTest(expected=expected):
+                self.assertEqual(self.refused(checks_of, text), expected)
 
 
 class Structs(Refused):

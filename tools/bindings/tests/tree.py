@@ -9,14 +9,16 @@ import unittest
 from contextlib import redirect_stderr, redirect_stdout
 from pathlib import Path
 
-from ..command import ROOT, RULES, STRUCTS, main, parts
-from ..comparing import findings, pages, rules, structs
+from ..command import ROOT, main, parts
+from ..comparing import findings, pages, rules, steps, structs
 from ..regions import text_of
 from ..tables.reading import structs_of
+from ..tables.tables import CHECKS, RULES, STEPS, STRUCTS, Tables
 
 FOLDERS = (structs.FOLDER, structs.PLACES, "crates/der_verify/src", "crates/der_verify/specs")
-WRITTEN = parts([], structs_of(STRUCTS, text_of(ROOT / STRUCTS)))
-FILES = (RULES, STRUCTS, findings.FILE, pages.FILE, rules.BITS, *WRITTEN)
+WRITTEN = parts(Tables([], [], structs_of(STRUCTS, text_of(ROOT / STRUCTS)), []))
+OF_STEPS = (steps.WORDS, *steps.SOURCES.values(), *steps.DEFINITIONS.values(), *steps.DEFINED_NUMBERS.values())
+FILES = (RULES, STEPS, STRUCTS, CHECKS, findings.FILE, pages.FILE, rules.BITS, *OF_STEPS, *WRITTEN)
 
 
 class TreeTest(unittest.TestCase):

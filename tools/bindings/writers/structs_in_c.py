@@ -91,10 +91,9 @@ def in_lists(found: list[Struct]) -> list[Struct]:
     return [struct for struct in found if struct.next and struct.next.is_written]
 
 
-def walking_calls(found: list[Struct]) -> list[str]:
-    """The calls that read one message after another, by a macro of c/walk.c."""
-    macro = {True: "NEXT", False: "NEXT_ENCODING"}
-    return [f"{macro[struct.is_front]}({struct.name}, {struct_in_c(struct)}, {len(struct.places)})" for struct in in_lists(found)]
+def checked_next_calls(found: list[Struct]) -> list[str]:
+    """The calls that read one message after another, by a macro of c/checked.c."""
+    return [f"CHECKED_NEXT({struct.name}, {struct_in_c(struct)})" for struct in in_lists(found)]
 
 
 def refusing_calls(found: list[Struct]) -> list[str]:
