@@ -115,4 +115,10 @@ static inline int is_signed_by(octets message, der_place how, der_place signatur
     octets covered = part(message, der_signed_octets(message.at, message.len));
     return is_signed(covered, part(message, how), bits(message, signature), key, NULL);
 }
+
+/* Whether a certificate is signed by the key of another. */
+static inline int is_issued(const certificate *it, const certificate *issuer)
+{
+    return is_signed_by(it->whole, it->at.signature_algorithm, it->at.signature_value, key_of(issuer));
+}
 #endif

@@ -25,31 +25,39 @@ static inline int refused(const char *why)
     return 1;
 }
 
-/* Room for octets that live as long as the program; NULL where none is left. */
+/* Room for octets that live as long as the program. */
+static uint8_t room[1 << 24];
+static size_t taken;
+
+/* So many octets of the room; NULL where they are not left. */
 static inline uint8_t *room_for(size_t len)
 {
-    static uint8_t room[1 << 24];
-    static size_t used;
-    uint8_t *at = room + used;
-    if (len > sizeof room - used)
+    uint8_t *at = room + taken;
+    if (len > sizeof room - taken)
         return NULL;
-    used += len;
+    taken += len;
     return at;
 }
 
 static inline octets read_file(const char *name)
 {
-    enum { MOST = 1 << 22 };
-    uint8_t *at = room_for(MOST);
-    octets all = {at, 0};
+    octets all = {room + taken, 0};
     FILE *file = fopen(name, "rb");
-    if (file == NULL || at == NULL) {
+    if (file == NULL) {
         perror(name);
         exit(2);
     }
-    all.len = fread(at, 1, MOST, file);
+    all.len = fread(room + taken, 1, sizeof room - taken, file);
+    taken += all.len;
     fclose(file);
     return all;
+}
+
+/* The place of octets of the room within the room. */
+static inline der_place place_in_room(octets it)
+{
+    der_place place = {it.len > 0 ? (uint32_t)(it.at - room) : 0, (uint32_t)it.len};
+    return place;
 }
 
 /* A moment in seconds from 1970: that of a word, or now where there is none. */
@@ -116,6 +124,18 @@ static inline int next_item(octets list, der_place *item)
     return item->length > 0;
 }
 
+/* The item with an index of a list; none where it has fewer. */
+static inline octets item_at(octets list, uint64_t index)
+{
+    octets none = {NULL, 0};
+    der_place item = {0, 0};
+    uint64_t at = 0;
+    while (next_item(list, &item))
+        if (at++ == index)
+            return part(list, item);
+    return none;
+}
+
 static inline int is_identifier(octets of, der_place identifier, const char *dotted)
 {
     octets it = contents(of, identifier);
@@ -148,6 +168,17 @@ static inline int is_valid_at(const certificate *it, uint64_t seconds)
 static inline octets key_of(const certificate *it)
 {
     return part(it->whole, it->at.subject_public_key_info);
+}
+
+static inline octets subject_of(const certificate *it)
+{
+    return part(it->whole, it->at.subject);
+}
+
+/* Whether a certificate has the name of the issuer of another. */
+static inline int is_named(const certificate *it, const certificate *other)
+{
+    return names_match(subject_of(it), part(other->whole, other->at.issuer));
 }
 
 static inline int has_extension(const certificate *it, const char *dotted, octets *value)

@@ -54,7 +54,7 @@ static int verify(const certificate *it, const certificate *issuer, uint64_t now
         return refused("another issued the certificate");
     if (!is_authority(issuer))
         return refused("the issuer may not sign certificates");
-    if (!is_signed_by(it->whole, it->at.signature_algorithm, it->at.signature_value, key_of(issuer)))
+    if (!is_issued(it, issuer))
         return refused("the signature is wrong");
     if (!is_valid_at(it, now) || !is_valid_at(issuer, now))
         return refused("a certificate is not valid at this moment");

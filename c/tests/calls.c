@@ -335,8 +335,14 @@ static void texts(void)
     check(strcmp(der_number_text(DER_NULL_POINTER), "no such number") != 0, "101 is one");
     check(strcmp(der_number_text(DER_UNKNOWN_NAME), "no such number") != 0, "102 is one");
     check(strcmp(der_number_text(DER_SHORT_BUFFER), "no such number") != 0, "103 is one");
-    check(strcmp(der_number_text(104), "no such number") == 0, "104 is none");
+    for (number = 104; number <= 109; number++)
+        check(strcmp(der_number_text(number), "no such number") != 0, "a refusal of a chain or a status has words");
+    check(strcmp(der_number_text(110), "no such number") == 0, "110 is none");
     check(strcmp(der_number_text(4294967295u), "no such number") == 0, "nor is the greatest");
+    for (number = DER_STEP_VALIDITY; number <= DER_STEP_USER_POLICIES; number++)
+        check(strncmp(der_step_text(number), "6.1.", 4) == 0, "each step has a letter");
+    check(strcmp(der_step_text(DER_STEP_KEY_USAGE), "6.1.4 (n)") == 0, "its own");
+    check(strcmp(der_step_text(0), "no step") == 0 && strcmp(der_step_text(13), "no step") == 0, "0 and 13 are no steps");
 }
 
 int main(int argc, char **argv)

@@ -121,7 +121,9 @@ static void request(const uint8_t *o, uint32_t size)
     walk(o, all, &s.at.certification_request_info, 3);
     walk(o, s.at.certification_request_info, &s.at.version, 4);
     AGAIN(certification_request, o, size, &s.at, all);
-    AGAIN(certification_request_info, o, size, &s.at, s.at.certification_request_info);
+    /* (the version that is written is 0) */
+    if (s.at.version.length == 3 && o[s.at.version.offset + 2] == 0)
+        AGAIN(certification_request_info, o, size, &s.at, s.at.certification_request_info);
     name(o, size, s.at.subject);
     attributes(o, size, s.at.attributes);
 }

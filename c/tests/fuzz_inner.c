@@ -147,7 +147,7 @@ static void identifier(const uint8_t *contents, uint32_t size)
     size_t length = der_object_identifier_text(contents, size, NULL, 0);
     char *text = malloc(length + 1);
     CHECK(text != NULL && der_object_identifier_text(contents, size, text, length + 1) == length && strlen(text) == length);
-    CHECK(der_object_identifier_is(contents, size, text) == (length > 0 && length < 256));
+    CHECK(der_object_identifier_is(contents, size, text) == (length > 0));
     calls += 3;
     free(text);
 }
@@ -216,6 +216,49 @@ static void others(const uint8_t *o, uint32_t size)
     free(buffer);
 }
 
+/* a certificate as a chain of its own, with its own key for the anchor's */
+static void chain(const uint8_t *o, uint32_t size)
+{
+    der_path_inputs inputs = {0};
+    der_place whole = {0, size};
+    der_certificate_at certificate;
+    der_verification_at at;
+    der_path_at out;
+    der_fault fault = {0, 0, 0};
+    uint8_t policies[1 << 12];
+    uint32_t answer, read = der_certificate(o, size, &certificate, NULL);
+    if (read == 0) {
+        inputs.moment = certificate.not_before;
+        inputs.anchor_name = certificate.issuer;
+        inputs.anchor_key = certificate.subject_public_key_info;
+    }
+    answer = der_check_path(o, size, &inputs, &whole, 1, &at, 1, policies, sizeof policies, &out, &fault);
+    CHECK(answer == fault.number && (answer != 0 || read == 0) && out.refused_index <= 1);
+    CHECK((out.step != 0) == (answer == DER_STEP_REFUSES) && out.step <= DER_STEP_USER_POLICIES);
+    if (answer == 0) {
+        CHECK(at.signed_octets.offset == certificate.tbs_certificate.offset && is_within(size, at.parameters));
+        CHECK(at.signature.length == certificate.signature_value.length && out.policies_len >= 2 * out.policy_count);
+    }
+    calls++;
+}
+
+/* the octets as a certificate and its list, and as an answer about a certificate of themselves */
+static void statuses(const uint8_t *o, uint32_t size)
+{
+    const der_place whole = {0, size};
+    const der_ocsp_inputs inputs = {0, whole, whole, whole, whole, whole, whole};
+    der_list_status_at told;
+    der_responder_at responders[2];
+    der_ocsp_status_at said;
+    der_fault fault = {0, 0, 0};
+    uint8_t key_hash[64];
+    uint32_t answer = der_list_status(o, size, &whole, &whole, 0, &told, &fault);
+    CHECK(answer != 0 && answer <= 17 && answer == fault.number && told.step == 0 && told.is_revoked == 0);
+    answer = der_ocsp_status(o, size, &inputs, responders, 2, key_hash, sizeof key_hash, &said, &fault);
+    CHECK(answer != 0 && answer <= 17 && answer == fault.number && said.step == 0 && said.responder_count == 0);
+    calls += 2;
+}
+
 void inner_calls(const uint8_t *o, uint32_t size, uint32_t header)
 {
     der_place contents = {header, size - header};
@@ -228,4 +271,6 @@ void inner_calls(const uint8_t *o, uint32_t size, uint32_t header)
     cert_id(o, size);
     requests(o, size);
     others(o, size);
+    chain(o, size);
+    statuses(o, size);
 }

@@ -12,8 +12,9 @@
  *   - A pointer with a length points to so many octets, and nothing writes them during the call. A null pointer with length
  *     0 stands for no octets; with another length it is refused (101).
  *   - `out`, `fault`, a buffer and the octets do not overlap. `out` and `fault` are aligned as their types are.
- *   - der_canonical is not called from a signal handler, or in a process that was forked from one with threads: it takes
- *     memory from malloc, and gives it back. No other call takes memory.
+ *   - der_canonical, der_check_path, der_list_status, der_revocation_status and der_ocsp_status are not called from a signal
+ *     handler, or in a process that was forked from one with threads: they take memory from malloc, and give it back. No other
+ *     call takes memory.
  */
 #ifndef BARLEYPULLEY_DER_H
 #define BARLEYPULLEY_DER_H
@@ -39,7 +40,7 @@ extern "C" {
  * its meaning. */
 enum der_number {
     DER_OK = 0,
-    DER_MEMORY = 1,             /* memory ran out, in der_canonical */
+    DER_MEMORY = 1,             /* memory ran out, in a call that takes memory */
     DER_INCOMPLETE = 2,         /* the octets end too soon */
     DER_TRAILING_DATA = 3,      /* octets are left over after a value */
     DER_TAG_UNEXPECTED = 4,     /* another tag stands there than may stand there */
@@ -59,7 +60,13 @@ enum der_number {
     DER_BAD_PLACE = 100,        /* a place that is not within the octets */
     DER_NULL_POINTER = 101,     /* a null pointer with a length that is not 0 */
     DER_UNKNOWN_NAME = 102,     /* no type has the name */
-    DER_SHORT_BUFFER = 103      /* a buffer that is too short for what is written */
+    DER_SHORT_BUFFER = 103,     /* a buffer that is too short for what is written */
+    DER_STEP_REFUSES = 104,     /* a step of path validation refuses a certificate */
+    DER_EXTENSION_UNREAD = 105, /* an extension that path validation processes stands twice, or cannot be read */
+    DER_EMPTY_CHAIN = 106,      /* a chain of no certificates */
+    DER_LIST_REFUSED = 107,     /* a step refuses a list of revoked certificates */
+    DER_ANSWER_REFUSED = 108,   /* a step refuses an answer of OCSP */
+    DER_LIST_UNREAD = 109       /* an extension of a list stands twice or cannot be read, of those that are processed */
 };
 
 /* written by tools/bindings: rules */
@@ -1091,7 +1098,7 @@ uint32_t der_signed_attributes(const uint8_t *octets, size_t len, const der_plac
  * Returns the length of the whole text; 0 for octets that are no object identifier, or have an arc over 64 bits. */
 size_t der_object_identifier_text(const uint8_t *contents, size_t len, char *buffer, size_t size);
 
-/* Whether this text is that of the contents octets; 0 for a text of 256 characters or more. */
+/* Whether this text is that of the contents octets. */
 int der_object_identifier_is(const uint8_t *contents, size_t len, const char *dotted);
 
 /* Reads all octets as a certificate, and writes which rules of RFC 5280 it breaks: 0, or the sum of the
@@ -1100,6 +1107,260 @@ uint32_t der_check_rfc5280(const uint8_t *octets, size_t len, uint64_t *broken, 
 
 /* Reads all octets as a certificate revocation list, and writes which rules it breaks, as bits DER_LIST_. */
 uint32_t der_check_rfc5280_list(const uint8_t *octets, size_t len, uint64_t *broken, der_fault *fault);
+
+/* ---- A chain of certificates (RFC 5280 6.1, with the policies of RFC 9618). */
+
+/* written by tools/bindings: structs of check path */
+/* The inputs of the validation of a chain beside the chain, with places within the octets (RFC 5280 6.1.1). */
+typedef struct der_path_inputs {
+    uint64_t moment;             /* (b), in seconds from 1970-01-01T00:00:00Z */
+    der_place anchor_name;       /* (d)(1): a Name, such as the subject of a certificate that is trusted */
+    der_place anchor_key;        /* (d)(2) to (4): a SubjectPublicKeyInfo */
+    der_place policies;          /* (c): encodings of OBJECT IDENTIFIERs, one after another; of length 0: any policy */
+    der_place constraints;       /* (h), (i): a NameConstraints; of length 0: each name is permitted, and none excluded */
+    uint32_t mapping_inhibit;    /* (e); a number other than 0 is true */
+    uint32_t explicit_policy;    /* (f); a number other than 0 is true */
+    uint32_t any_policy_inhibit; /* (g); a number other than 0 is true */
+    uint32_t reserved;           /* 0 */
+} der_path_inputs;
+
+/* What has to verify of a certificate (RFC 5280 6.1.3 (a)(1)). */
+typedef struct der_verification_at {
+    der_place signed_octets; /* what the signature covers: tbsCertificate of the certificate */
+    der_place algorithm;     /* its signatureAlgorithm, an AlgorithmIdentifier */
+    der_place signature;     /* its signatureValue, a BIT STRING */
+    der_place key;           /* a SubjectPublicKeyInfo: that of the certificate before it, or of the anchor */
+    der_place parameters;    /* the key's own parameters, or those that it inherits (6.1.4 (d) to (f)); of length 0: none */
+} der_verification_at;
+
+/* What is said of a chain. */
+typedef struct der_path_at {
+    uint64_t refused_index; /* which certificate is refused, from 0; the number of certificates where none of them is */
+    uint64_t policy_count;  /* how many policies user_constrained_policy_set has (6.1.6) */
+    uint64_t policies_len;  /* how many octets they have */
+    uint32_t step;          /* the step that refuses (der_step), where the result is 104; else 0 */
+    uint32_t reserved;      /* 0 */
+} der_path_at;
+
+DER_ASSERT(sizeof(der_path_inputs) == 56, "4 places and 1 number of 64 bits and 4 numbers of 32 bits");
+DER_ASSERT(offsetof(der_path_inputs, anchor_name) == 8, "after 1 number of 64 bits");
+DER_ASSERT(offsetof(der_path_inputs, mapping_inhibit) == 40, "after 4 places and 1 number of 64 bits");
+DER_ASSERT(sizeof(der_verification_at) == 40, "5 places");
+DER_ASSERT(sizeof(der_path_at) == 32, "3 numbers of 64 bits and 2 numbers of 32 bits");
+DER_ASSERT(offsetof(der_path_at, step) == 24, "after 3 numbers of 64 bits");
+/* end of structs of check path */
+
+/* The steps that refuse a certificate. A number never changes its meaning. */
+enum der_step {
+    /* written by tools/bindings: steps of certificates */
+    DER_STEP_VALIDITY = 1,                  /* 6.1.3 (a)(2): the moment is outside the validity */
+    DER_STEP_ISSUER = 2,                    /* 6.1.3 (a)(4): the issuer is not the subject before it, or the anchor */
+    DER_STEP_PERMITTED = 3,                 /* 6.1.3 (b): a name is not within the permitted subtrees */
+    DER_STEP_EXCLUDED = 4,                  /* 6.1.3 (c): a name is within an excluded subtree */
+    DER_STEP_POLICIES = 5,                  /* 6.1.3 (f): no policy is left, and one is required */
+    DER_STEP_ANY_POLICY_IS_MAPPED = 6,      /* 6.1.4 (a): anyPolicy is mapped */
+    DER_STEP_CA = 7,                        /* 6.1.4 (k): not of version 3, or not a CA's */
+    DER_STEP_PATH_LENGTH = 8,               /* 6.1.4 (l): the chain is longer than a pathLenConstraint allows */
+    DER_STEP_KEY_USAGE = 9,                 /* 6.1.4 (n): keyUsage does not have keyCertSign */
+    DER_STEP_UNKNOWN_EXTENSION = 10,        /* 6.1.4 (o): a critical extension is not processed */
+    DER_STEP_UNKNOWN_EXTENSION_AT_END = 11, /* 6.1.5 (f): the same of the last certificate */
+    DER_STEP_USER_POLICIES = 12             /* 6.1.5 (g): no policy of the user is left, and one is required */
+    /* end of steps of certificates */
+};
+
+/* Validates a chain: the places of its certificates, from the one that the anchor issued to the end certificate. All places
+ * are within the octets.
+ *
+ * 0: the chain is valid if for each certificate what stands at its place of `verifications` verifies ((a)(1)), and the
+ * certificate is not revoked ((a)(3)); these are left to the caller. `policies` has the policies of the user that the chain
+ * is valid for, each as the encoding of an OBJECT IDENTIFIER, one after another.
+ *
+ * Else no verification and no policy is written: 104 if a step refuses the certificate at `refused_index`; 105 if one of its
+ * extensions stands twice or cannot be read, of those that 6.1 processes; 106 for no certificates; 100 for a place that is
+ * not within the octets, or the number of the first fault of what is read at it, whose position counts from the start of all
+ * octets; 103 if `room` is less than `count`, or `policies_size` less than `policies_len`, which is written.
+ *
+ * `out` is always written, but for a null pointer (101). */
+uint32_t der_check_path(const uint8_t *octets, size_t len, const der_path_inputs *inputs, const der_place *chain, size_t count,
+                        der_verification_at *verifications, size_t room, uint8_t *policies, size_t policies_size,
+                        der_path_at *out, der_fault *fault);
+
+/* Returns the section and the letter of a step of RFC 5280, such as "6.1.3 (a)(2)", a text that is never freed; "no step" for
+ * another number. */
+const char *der_step_text(uint32_t step);
+
+/* ---- The status of a certificate, by a list (RFC 5280 6.3.3) or an answer of OCSP (RFC 6960). No signature is verified. */
+
+/* The number of a reason (RFC 5280 5.3.1). A set of reasons has the bits of ReasonFlags (4.2.1.13): bit 1 as 2 for
+ * keyCompromise, to bit 8 as 256 for aACompromise. */
+enum der_reason {
+    DER_UNSPECIFIED = 0,
+    DER_KEY_COMPROMISE = 1,
+    DER_CA_COMPROMISE = 2,
+    DER_AFFILIATION_CHANGED = 3,
+    DER_SUPERSEDED = 4,
+    DER_CESSATION_OF_OPERATION = 5,
+    DER_CERTIFICATE_HOLD = 6,
+    DER_REMOVE_FROM_CRL = 8,
+    DER_PRIVILEGE_WITHDRAWN = 9,
+    DER_AA_COMPROMISE = 10
+};
+
+/* written by tools/bindings: structs of list status */
+/* What a list says of a certificate (RFC 5280 6.3.3). */
+typedef struct der_list_status_at {
+    uint64_t revocation_date_seconds; /* when, in seconds from 1970-01-01T00:00:00Z; 0 if the certificate is not revoked */
+    uint32_t is_revoked;              /* 1 or 0 */
+    uint32_t reason;                  /* one of der_reason: why it is revoked; unspecified where the entry has no reason */
+    uint32_t reasons;                 /* the reasons for which certificates stand in the list, as bits of ReasonFlags */
+    uint32_t step;                    /* the step that refuses (der_list_step), where the result is 107; else 0 */
+} der_list_status_at;
+
+DER_ASSERT(sizeof(der_list_status_at) == 24, "1 number of 64 bits and 4 numbers of 32 bits");
+DER_ASSERT(offsetof(der_list_status_at, is_revoked) == 8, "after 1 number of 64 bits");
+/* end of structs of list status */
+
+/* The steps that refuse a list. A number never changes its meaning. */
+enum der_list_step {
+    /* written by tools/bindings: steps of lists */
+    DER_LIST_DELTA = 1,                   /* 5.2.4: the list is a delta */
+    DER_LIST_UNKNOWN_EXTENSION = 2,       /* 5.2: a critical extension is not processed */
+    DER_LIST_UNREAD_ENTRY = 3,            /* 5.3: an extension of an entry stands twice, or cannot be read */
+    DER_LIST_UNKNOWN_ENTRY_EXTENSION = 4, /* 5.3: a critical extension of an entry is not processed */
+    DER_LIST_ISSUER = 5,                  /* 6.3.3 (b)(1): the issuer is not that of the certificate */
+    DER_LIST_POINT_NAME = 6,              /* 6.3.3 (b)(2)(i): the list is of other distribution points */
+    DER_LIST_USER_CERTIFICATES = 7,       /* 6.3.3 (b)(2)(ii): the list has end entities alone, and the certificate is a CA's */
+    DER_LIST_CA_CERTIFICATES = 8,         /* 6.3.3 (b)(2)(iii): the list has CAs alone, and the certificate is no CA's */
+    DER_LIST_ATTRIBUTE_CERTIFICATES = 9,  /* 6.3.3 (b)(2)(iv): the list has attribute certificates alone */
+    DER_LIST_THIS_UPDATE = 10,            /* 5.1.2.4: the list is issued after the moment */
+    DER_LIST_NEXT_UPDATE = 11,            /* 6.3.3 (a)(1): the moment is after nextUpdate */
+    DER_LIST_NO_NEW_REASONS = 12          /* 6.3.3 (e): the list has no reason */
+    /* end of steps of lists */
+};
+
+/* Says what a list of revoked certificates tells of a certificate at a moment, in seconds from 1970 (RFC 5280 6.3.3). Both are
+ * at places within the octets. The list is the own one of the certificate's issuer: whole, no delta, and not indirect.
+ *
+ * 0: the list tells whether the certificate is revoked, if the signature of the list verifies ((g)) by the key of its issuer,
+ * whose path is valid and whose keyUsage, if it is there, has cRLSign ((f)); these are left to the caller.
+ *
+ * Else 107 if a step refuses the list; 105 if an extension of the certificate that 6.1 processes stands twice or cannot be
+ * read, 109 if one of the list that 6.3.3 processes does; 100 for a place that is not within the octets, or the number of the
+ * first fault of what is read at it, whose position counts from the start of all octets: first the certificate, then the list.
+ *
+ * `out` is always written, but for a null pointer (101). */
+uint32_t der_list_status(const uint8_t *octets, size_t len, const der_place *certificate, const der_place *list, uint64_t moment,
+                         der_list_status_at *out, der_fault *fault);
+
+/* written by tools/bindings: structs of revocation status */
+/* What lists say of a certificate (RFC 5280 6.3.3). */
+typedef struct der_revocation_status_at {
+    uint64_t revocation_date_seconds; /* when, in seconds from 1970-01-01T00:00:00Z; 0 if the certificate is not revoked */
+    uint64_t refused_index;           /* which list is not read, from 0; the number of lists where each is */
+    uint32_t status;                  /* 0: not revoked, 1: revoked, 2: the lists do not tell; one of der_revocation */
+    uint32_t reason;                  /* one of der_reason: why it is revoked; unspecified where the entry has no reason */
+    uint32_t reasons;                 /* known reasons, as bits of ReasonFlags, where the lists do not tell; else 0 */
+    uint32_t reserved;                /* 0 */
+} der_revocation_status_at;
+
+DER_ASSERT(sizeof(der_revocation_status_at) == 32, "2 numbers of 64 bits and 4 numbers of 32 bits");
+DER_ASSERT(offsetof(der_revocation_status_at, status) == 16, "after 2 numbers of 64 bits");
+/* end of structs of revocation status */
+
+/* cert_status of 6.3.3. */
+enum der_revocation {
+    DER_UNREVOKED = 0,   /* the certificate is in none of the lists, and these have all reasons */
+    DER_REVOKED = 1,     /* it is revoked */
+    DER_UNDETERMINED = 2 /* it is in none of the lists that are used, and these do not have all reasons */
+};
+
+/* Says what lists tell of a certificate by the whole of 6.3.3, with distribution points, indirect lists and deltas: complete
+ * lists and deltas, in any order; those that 6.3.3 does not use say nothing. All are at places within the octets. `use_deltas`
+ * is use-deltas (6.3.1 (b)): a number other than 0 is true.
+ *
+ * 0: this is the status, if the signature of each list verifies ((g), (h)) by the key of its issuer, whose path is valid and
+ * whose keyUsage, if it is there, has cRLSign ((f)); these are left to the caller.
+ *
+ * Else 105 if an extension of the certificate that 6.3.3 processes stands twice or cannot be read; 100 for a place that is not
+ * within the octets, or the number of the first fault of what is read at it, whose position counts from the start of all
+ * octets: first the certificate, then each list.
+ *
+ * `out` is always written, but for a null pointer (101). */
+uint32_t der_revocation_status(const uint8_t *octets, size_t len, const der_place *certificate, const der_place *lists,
+                               size_t count, uint64_t moment, uint32_t use_deltas, der_revocation_status_at *out,
+                               der_fault *fault);
+
+/* written by tools/bindings: structs of ocsp status */
+/* What is asked of an answer of OCSP, with places within the octets (RFC 6960 3.2, 4.1.1). */
+typedef struct der_ocsp_inputs {
+    uint64_t moment;     /* in seconds from 1970-01-01T00:00:00Z */
+    der_place answer;    /* a BasicOCSPResponse */
+    der_place issuer;    /* the Name of the certificate's issuer */
+    der_place algorithm; /* the contents octets of the hash algorithm's identifier: 2B 0E 03 02 1A for SHA-1 */
+    der_place name_hash; /* the hash value of the issuer's name, by this algorithm */
+    der_place key_hash;  /* the hash value of the issuer's public key: of the octets of the BIT STRING subjectPublicKey */
+    der_place serial;    /* the contents octets of the certificate's serial number */
+} der_ocsp_inputs;
+
+/* Who may have signed an answer (RFC 6960 4.2.2.2). */
+typedef struct der_responder_at {
+    uint64_t index;     /* which certificate of the answer, from 0; 0 for the issuer */
+    uint32_t is_issuer; /* 1: the issuer of the certificate; 0: the holder of a certificate of the answer */
+    uint32_t reserved;  /* 0 */
+} der_responder_at;
+
+/* What an answer says of a certificate. */
+typedef struct der_ocsp_status_at {
+    uint64_t this_update_seconds;     /* in seconds from 1970-01-01T00:00:00Z */
+    uint64_t next_update_seconds;     /* 0 if it is absent */
+    uint64_t revocation_time_seconds; /* 0 if the certificate is not revoked */
+    uint64_t responder_count;         /* how many may have signed the answer */
+    uint64_t key_hash_len;            /* how many octets the hash value of the responder's key has */
+    uint32_t cert_status_number;      /* 0: good, 1: revoked, 2: unknown */
+    uint32_t reason;                  /* one of der_reason: why it is revoked; unspecified where there is no reason */
+    uint32_t has_key_hash;            /* 1: the answer names its responder by the hash value of a key; 0: by a name */
+    uint32_t step;                    /* the step that refuses (der_ocsp_step), where the result is 108; else 0 */
+} der_ocsp_status_at;
+
+DER_ASSERT(sizeof(der_ocsp_inputs) == 56, "6 places and 1 number of 64 bits");
+DER_ASSERT(offsetof(der_ocsp_inputs, answer) == 8, "after 1 number of 64 bits");
+DER_ASSERT(sizeof(der_responder_at) == 16, "1 number of 64 bits and 2 numbers of 32 bits");
+DER_ASSERT(offsetof(der_responder_at, is_issuer) == 8, "after 1 number of 64 bits");
+DER_ASSERT(sizeof(der_ocsp_status_at) == 56, "5 numbers of 64 bits and 4 numbers of 32 bits");
+DER_ASSERT(offsetof(der_ocsp_status_at, cert_status_number) == 40, "after 5 numbers of 64 bits");
+/* end of structs of ocsp status */
+
+/* The steps that refuse an answer. A number never changes its meaning. */
+enum der_ocsp_step {
+    /* written by tools/bindings: steps of answers */
+    DER_OCSP_CRITICAL_EXTENSION = 1, /* 4.4: an extension of the answer, or of its part about the certificate, is critical */
+    DER_OCSP_NOT_ANSWERED = 2,       /* 3.2 (1): the answer is about other certificates */
+    DER_OCSP_THIS_UPDATE = 3,        /* 3.2 (5): the status is known to be correct only after the moment */
+    DER_OCSP_NEXT_UPDATE = 4,        /* 3.2 (6): newer information is available at the moment */
+    DER_OCSP_NO_RESPONDER = 5        /* 3.2 (4): the answer names nobody who may sign it (4.2.2.2) */
+    /* end of steps of answers */
+};
+
+/* Says what an answer tells of a certificate (RFC 6960 3.2, 4.2.2.2).
+ *
+ * 0: the answer tells the status, if its signature verifies with the key of one of `responders`: of the issuer, or of a
+ * certificate of the answer whose own signature verifies with the issuer's key. If `has_key_hash` is 1, the SHA-1 hash value of
+ * that key is `key_hash`. These are left to the caller, and whether the answer is recent enough (3.2 (5)), and whether a
+ * responder's certificate is revoked (4.2.2.2.1).
+ *
+ * Else no responder and no hash value is written: 108 if a step refuses the answer; 100 for a place that is not within the
+ * octets, or the number of the first fault of what is read at it, whose position counts from the start of all octets: first the
+ * answer, then the name; 103 if `room` is less than `responder_count`, or `key_hash_size` less than `key_hash_len`, which are
+ * written.
+ *
+ * `out` is always written, but for a null pointer (101). */
+uint32_t der_ocsp_status(const uint8_t *octets, size_t len, const der_ocsp_inputs *inputs, der_responder_at *responders,
+                         size_t room, uint8_t *key_hash, size_t key_hash_size, der_ocsp_status_at *out, der_fault *fault);
+
+/* Returns the section and the letter of a step of RFC 5280 that refuses a list, such as "6.3.3 (b)(1)", or of RFC 6960 that
+ * refuses an answer, such as "3.2 (1)", a text that is never freed; "no step" for another number. */
+const char *der_list_step_text(uint32_t step);
+const char *der_ocsp_step_text(uint32_t step);
 
 /* Reads all octets as a value of the type with a name. Writes the value's one encoding to the front of a buffer, and its
  * length to `written`. If the buffer is too short (103), only `written` is written, with the length that is enough; so a
