@@ -32,7 +32,7 @@ setup(
     ext_modules=[
         Extension(
             "derproved._der",
-            [f"src/derproved/{name}.c" for name in ("_der", "field", "items", "message", "octets")],
+            [f"src/derproved/{name}.c" for name in ("_der", "field", "items", "message", "octets", "path", "status", "writing")],
             depends=["src/derproved/classes.h"],
             include_dirs=[str(HEADER)],
             extra_objects=[str(LIBRARY / "libder_c.a")],

@@ -1,8 +1,9 @@
 // Package der reads DER of certificates, lists of revoked certificates, keys, requests, answers about the status of
 // certificates and signed messages by proved code: which octets are taken, and where each field stands.
 //
-// A value keeps the octets that it was read from, and a field is a slice of them: its whole encoding. Nothing is copied, and
-// no signature is verified. The code that reads is Barleypulley's der_c; this package, which calls it, is not proved.
+// A value keeps the octets that it was read from, and a field is a slice of them: its whole encoding. Nothing of them is copied,
+// and no signature is verified: CheckPath validates a chain of certificates, and returns what has to verify. A Writer writes
+// messages from their fields. The code that reads and writes is Barleypulley's der_c; this package, which calls it, is not proved.
 //
 // Octets that are refused return an *Error: the number of the first fault, and where it was met. A date before 1970 is refused
 // (13). No pointer to the octets outlives a call into C.
@@ -30,7 +31,7 @@ func init() {
 
 // Error says why octets are refused.
 type Error struct {
-	// Number is that of the kind, 1 to 17, which never changes its meaning.
+	// Number is that of the kind, which never changes its meaning: 1 to 17 of octets, 100 and more of a call.
 	Number uint32
 	// IsPlaced says whether the position is known.
 	IsPlaced bool

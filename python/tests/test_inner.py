@@ -204,7 +204,8 @@ class Values(unittest.TestCase):
 
     def test_what_is_no_list(self):
         self.assertEqual(list(encodings(b"")), [])
-        self.assertEqual([bytes(it) for it in encodings(bytes.fromhex("3005 0500 0205"))], [b"\x05\x00"])
+        self.assertEqual([bytes(it) for it in encodings(bytes.fromhex("3004 0500 0205"))], [b"\x05\x00"])
+        self.assertEqual(list(encodings(bytes.fromhex("3005 0500 0205"))), [])
 
 
 if __name__ == "__main__":

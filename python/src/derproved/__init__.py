@@ -2,9 +2,10 @@
 proved: which octets are taken, where each field stands, which rules of RFC 5280 are broken, and the canonical encoding by
 the name of a type.
 
-A value keeps the octets that it was read from, and a field is a memoryview of them: its whole encoding. Nothing is
-copied but identifiers and by canonical, and no signature is verified. The code that reads is Barleypulley's der_c; this package, which calls it, is not
-proved.
+A value keeps the octets that it was read from, and a field is a memoryview of them: its whole encoding. Nothing of them is
+copied but identifiers and by canonical. No signature is verified: check_path validates a chain of certificates, and returns
+what has to verify; list_status, revocation_status and ocsp_status say whether a certificate is revoked. The code that reads
+and writes is Barleypulley's der_c; this package, which calls it, is not proved.
 
 A value is there once it was read, and does not change. What stands one behind another, as extensions, is an iterator, and
 each is read when it is asked for. A copy, or what pickle writes, has the octets, and is read anew. A class that derives from
@@ -19,6 +20,9 @@ one of these has a __new__ of its own where it takes more than the octets.
 
 Two messages are equal if they are of one class and have equal octets. A message has a hash if nobody can write its octets.
 
+A message is written by a function of its fields, such as write_certificate; write_name and others write values, which are
+fields, or parts of fields. Each returns bytes.
+
 Octets that are refused raise Error, a ValueError with the number of the first fault, its words, and its position. A date before
 1970 is refused (13).
 """
@@ -27,12 +31,16 @@ from __future__ import annotations
 
 from collections.abc import Iterator
 from datetime import datetime
-from enum import Enum, IntFlag
+from enum import IntFlag
 
-from . import _der, _inner, _places, _text
+from . import _der, _fields, _inner, _path, _places, _status, _text, _writing
 from ._error import Error
+from ._fields import *
 from ._inner import *
+from ._path import *
+from ._status import *
 from ._values import (
+    CertStatus,
     KeyUsage,
     NameKind,
     encodings,
@@ -42,6 +50,7 @@ from ._values import (
     time,
     unsigned_integer,
 )
+from ._writing import *
 
 __all__ = [
     "Attribute",
@@ -79,7 +88,7 @@ __all__ = [
     "time",
     "unsigned_integer",
 ]
-__all__ += _inner.__all__
+__all__ += [*_inner.__all__, *_fields.__all__, *_path.__all__, *_status.__all__, *_writing.__all__]
 
 Octets = bytes | bytearray | memoryview
 
@@ -291,14 +300,6 @@ class OcspResponse(_der.OcspResponse):
     response_status = _der.number(
         _places.OcspResponse.response_status_number, "`responseStatus`: 0 for successful, 1 to 3, 5 or 6."
     )
-
-
-class CertStatus(Enum):
-    """What is answered about a certificate."""
-
-    GOOD = 0
-    REVOKED = 1
-    UNKNOWN = 2
 
 
 class SingleResponse(_der.SingleResponse):

@@ -97,6 +97,20 @@ static PyObject *canonical(PyObject *module, PyObject *arguments)
     return found;
 }
 
+/* A number as its text. */
+#define TEXT(name)                                                                       \
+    static PyObject *name(PyObject *module, PyObject *argument)                          \
+    {                                                                                    \
+        unsigned long number = PyLong_AsUnsignedLong(argument);                          \
+        (void)module;                                                                    \
+        return PyErr_Occurred() ? NULL : PyUnicode_FromString(der_##name((uint32_t)number)); \
+    }
+
+TEXT(number_text)
+TEXT(step_text)
+TEXT(list_step_text)
+TEXT(ocsp_step_text)
+
 static PyMethodDef methods[] = {
     {"field", place_field, METH_VARARGS, "A field that is always there: index of its place, documentation."},
     {"optional", optional_field, METH_VARARGS, "The same of one that may be absent, and is then None."},
@@ -120,6 +134,21 @@ static PyMethodDef methods[] = {
     {"general_name", general_name, METH_O, "The number of the tag of a GeneralName, and its contents octets."},
     {"encodings", encodings, METH_O, "The encodings in the contents octets."},
     {"canonical", canonical, METH_VARARGS, "The canonical encoding by the name of a type."},
+    {"write_message", write_message, METH_VARARGS, "A message: the name of its call, the octets of its fields, their lengths, numbers."},
+    {"write_octets", write_octets, METH_VARARGS, "A value of octets: the name of its call, the octets."},
+    {"write_seconds", write_seconds, METH_VARARGS, "A date: the name of its call, the seconds."},
+    {"write_encoding", write_encoding, METH_VARARGS, "An encoding: an identifier octet, contents octets."},
+    {"write_name_attribute", write_name_attribute, METH_VARARGS, "An attribute of a name: the contents octets of its type, a text."},
+    {"check_path", check_path, METH_VARARGS,
+     "A chain: the octets of four inputs and of certificates, their lengths, a moment, three flags."},
+    {"list_status", list_status, METH_VARARGS, "The octets of a certificate and of a list, their lengths, a moment."},
+    {"revocation_status", revocation_status, METH_VARARGS,
+     "The octets of a certificate and of lists, their lengths, a moment, whether deltas are used."},
+    {"ocsp_status", ocsp_status, METH_VARARGS, "The octets of an answer and of five inputs, their lengths, a moment."},
+    {"number_text", number_text, METH_O, "The words of a number."},
+    {"step_text", step_text, METH_O, "The section of a step of path validation."},
+    {"list_step_text", list_step_text, METH_O, "The section of a step that refuses a list."},
+    {"ocsp_step_text", ocsp_step_text, METH_O, "The section of a step that refuses an answer."},
     {"contents", contents, METH_O, "The contents octets."},
     {"signed_octets", signed_octets, METH_O, "What a signature covers."},
     {NULL, NULL, 0, NULL},

@@ -4,7 +4,7 @@ from __future__ import annotations
 
 from collections.abc import Iterator
 from datetime import datetime, timedelta, timezone
-from enum import IntEnum, IntFlag
+from enum import Enum, IntEnum, IntFlag
 
 from . import _der
 
@@ -61,6 +61,14 @@ class NameKind(IntEnum):
 
 
 KINDS = tuple(NameKind)
+
+
+class CertStatus(Enum):
+    """What is answered about a certificate."""
+
+    GOOD = 0
+    REVOKED = 1
+    UNKNOWN = 2
 
 
 def general_name(encoding: Octets) -> tuple[NameKind, memoryview]:

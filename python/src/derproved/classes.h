@@ -167,6 +167,33 @@ PyObject *items_field(PyObject *module, PyObject *arguments);
 
 int add_fields(PyObject *module);
 
+/* writing.c */
+
+/* A message: the name of its call, the octets of its fields, their lengths, and numbers. */
+PyObject *write_message(PyObject *module, PyObject *arguments);
+
+/* A value: the name of its call and its octets, or its seconds; an identifier octet and contents octets; a type and a text. */
+PyObject *write_octets(PyObject *module, PyObject *arguments);
+PyObject *write_seconds(PyObject *module, PyObject *arguments);
+PyObject *write_encoding(PyObject *module, PyObject *arguments);
+PyObject *write_name_attribute(PyObject *module, PyObject *arguments);
+
+/* path.c */
+
+/* The place of a number of octets behind another place. */
+int put_place(PyObject *length, der_place *last, der_place *place);
+
+/* The octets of four inputs and of certificates, their lengths, a moment and three flags. */
+PyObject *check_path(PyObject *module, PyObject *arguments);
+
+/* status.c */
+
+/* The octets of a certificate and of a list; or of an answer and five inputs; their lengths, and a moment; or of a certificate and
+ * of lists, and then whether deltas are used. */
+PyObject *list_status(PyObject *module, PyObject *arguments);
+PyObject *revocation_status(PyObject *module, PyObject *arguments);
+PyObject *ocsp_status(PyObject *module, PyObject *arguments);
+
 /* _der.c */
 
 /* Adds a class that derives from another, or from object where that is NULL. */

@@ -852,6 +852,166 @@ pub struct CertBagAt {
 }
 // end of structs
 
+// written by tools/bindings: structs of checks
+/// The inputs of the validation of a chain beside the chain, with places within the octets (RFC 5280 6.1.1): `der_path_inputs`.
+#[repr(C)]
+#[derive(Clone, Copy, Debug, Default, PartialEq, Eq)]
+pub struct PathInputs {
+    /// (b), in seconds from 1970-01-01T00:00:00Z.
+    pub moment: u64,
+    /// (d)(1): a Name, such as the subject of a certificate that is trusted.
+    pub anchor_name: Place,
+    /// (d)(2) to (4): a SubjectPublicKeyInfo.
+    pub anchor_key: Place,
+    /// (c): encodings of OBJECT IDENTIFIERs, one after another; of length 0: any policy.
+    pub policies: Place,
+    /// (h), (i): a NameConstraints; of length 0: each name is permitted, and none excluded.
+    pub constraints: Place,
+    /// (e); a number other than 0 is true.
+    pub mapping_inhibit: u32,
+    /// (f); a number other than 0 is true.
+    pub explicit_policy: u32,
+    /// (g); a number other than 0 is true.
+    pub any_policy_inhibit: u32,
+    /// 0.
+    pub reserved: u32,
+}
+
+/// What has to verify of a certificate (RFC 5280 6.1.3 (a)(1)): `der_verification_at`.
+#[repr(C)]
+#[derive(Clone, Copy, Debug, Default, PartialEq, Eq)]
+pub struct VerificationAt {
+    /// What the signature covers: tbsCertificate of the certificate.
+    pub signed_octets: Place,
+    /// Its signatureAlgorithm, an AlgorithmIdentifier.
+    pub algorithm: Place,
+    /// Its signatureValue, a BIT STRING.
+    pub signature: Place,
+    /// A SubjectPublicKeyInfo: that of the certificate before it, or of the anchor.
+    pub key: Place,
+    /// The key's own parameters, or those that it inherits (6.1.4 (d) to (f)); of length 0: none.
+    pub parameters: Place,
+}
+
+/// What is said of a chain: `der_path_at`.
+#[repr(C)]
+#[derive(Clone, Copy, Debug, Default, PartialEq, Eq)]
+pub struct PathAt {
+    /// Which certificate is refused, from 0; the number of certificates where none of them is.
+    pub refused_index: u64,
+    /// How many policies user_constrained_policy_set has (6.1.6).
+    pub policy_count: u64,
+    /// How many octets they have.
+    pub policies_len: u64,
+    /// The step that refuses (der_step), where the result is 104; else 0.
+    pub step: u32,
+    /// 0.
+    pub reserved: u32,
+}
+
+/// What a list says of a certificate (RFC 5280 6.3.3): `der_list_status_at`.
+#[repr(C)]
+#[derive(Clone, Copy, Debug, Default, PartialEq, Eq)]
+pub struct ListStatusAt {
+    /// When, in seconds from 1970-01-01T00:00:00Z; 0 if the certificate is not revoked.
+    pub revocation_date: u64,
+    /// 1 or 0.
+    pub is_revoked: u32,
+    /// One of der_reason: why it is revoked; unspecified where the entry has no reason.
+    pub reason: u32,
+    /// The reasons for which certificates stand in the list, as bits of ReasonFlags.
+    pub reasons: u32,
+    /// The step that refuses (der_list_step), where the result is 107; else 0.
+    pub step: u32,
+}
+
+/// What lists say of a certificate (RFC 5280 6.3.3): `der_revocation_status_at`.
+#[repr(C)]
+#[derive(Clone, Copy, Debug, Default, PartialEq, Eq)]
+pub struct RevocationStatusAt {
+    /// When, in seconds from 1970-01-01T00:00:00Z; 0 if the certificate is not revoked.
+    pub revocation_date: u64,
+    /// Which list is not read, from 0; the number of lists where each is.
+    pub refused_index: u64,
+    /// 0: not revoked, 1: revoked, 2: the lists do not tell; one of der_revocation.
+    pub status: u32,
+    /// One of der_reason: why it is revoked; unspecified where the entry has no reason.
+    pub reason: u32,
+    /// Known reasons, as bits of ReasonFlags, where the lists do not tell; else 0.
+    pub reasons: u32,
+    /// 0.
+    pub reserved: u32,
+}
+
+/// What is asked of an answer of OCSP, with places within the octets (RFC 6960 3.2, 4.1.1): `der_ocsp_inputs`.
+#[repr(C)]
+#[derive(Clone, Copy, Debug, Default, PartialEq, Eq)]
+pub struct OcspInputs {
+    /// In seconds from 1970-01-01T00:00:00Z.
+    pub moment: u64,
+    /// A BasicOCSPResponse.
+    pub answer: Place,
+    /// The Name of the certificate's issuer.
+    pub issuer: Place,
+    /// The contents octets of the hash algorithm's identifier: 2B 0E 03 02 1A for SHA-1.
+    pub algorithm: Place,
+    /// The hash value of the issuer's name, by this algorithm.
+    pub name_hash: Place,
+    /// The hash value of the issuer's public key: of the octets of the BIT STRING subjectPublicKey.
+    pub key_hash: Place,
+    /// The contents octets of the certificate's serial number.
+    pub serial: Place,
+}
+
+/// Who may have signed an answer (RFC 6960 4.2.2.2): `der_responder_at`.
+#[repr(C)]
+#[derive(Clone, Copy, Debug, Default, PartialEq, Eq)]
+pub struct ResponderAt {
+    /// Which certificate of the answer, from 0; 0 for the issuer.
+    pub index: u64,
+    /// 1: the issuer of the certificate; 0: the holder of a certificate of the answer.
+    pub is_issuer: u32,
+    /// 0.
+    pub reserved: u32,
+}
+
+/// What an answer says of a certificate: `der_ocsp_status_at`.
+#[repr(C)]
+#[derive(Clone, Copy, Debug, Default, PartialEq, Eq)]
+pub struct OcspStatusAt {
+    /// In seconds from 1970-01-01T00:00:00Z.
+    pub this_update: u64,
+    /// 0 if it is absent.
+    pub next_update: u64,
+    /// 0 if the certificate is not revoked.
+    pub revocation_time: u64,
+    /// How many may have signed the answer.
+    pub responder_count: u64,
+    /// How many octets the hash value of the responder's key has.
+    pub key_hash_len: u64,
+    /// 0: good, 1: revoked, 2: unknown.
+    pub status: u32,
+    /// One of der_reason: why it is revoked; unspecified where there is no reason.
+    pub reason: u32,
+    /// 1: the answer names its responder by the hash value of a key; 0: by a name.
+    pub has_key_hash: u32,
+    /// The step that refuses (der_ocsp_step), where the result is 108; else 0.
+    pub step: u32,
+}
+
+const _: () = assert!(
+    core::mem::size_of::<PathInputs>() == 56
+        && core::mem::size_of::<VerificationAt>() == 40
+        && core::mem::size_of::<PathAt>() == 32
+        && core::mem::size_of::<ListStatusAt>() == 24
+        && core::mem::size_of::<RevocationStatusAt>() == 32
+        && core::mem::size_of::<OcspInputs>() == 56
+        && core::mem::size_of::<ResponderAt>() == 16
+        && core::mem::size_of::<OcspStatusAt>() == 56,
+    "the structs of der.h"
+);
+// end of structs of checks
+
 #[allow(missing_docs)]
 extern "C" {
     pub fn der_abi_version() -> u32;
@@ -1025,4 +1185,278 @@ extern "C" {
     pub fn der_next_encoding(octets: *const u8, len: usize, last: *const Place) -> Place;
     pub fn der_contents(octets: *const u8, len: usize, place: *const Place) -> Place;
     pub fn der_signed_octets(octets: *const u8, len: usize) -> Place;
+    pub fn der_check_path(
+        octets: *const u8,
+        len: usize,
+        inputs: *const PathInputs,
+        chain: *const Place,
+        count: usize,
+        verifications: *mut VerificationAt,
+        room: usize,
+        policies: *mut u8,
+        policies_size: usize,
+        out: *mut PathAt,
+        fault: *mut Fault,
+    ) -> u32;
+    pub fn der_step_text(step: u32) -> *const core::ffi::c_char;
+    pub fn der_list_status(
+        octets: *const u8,
+        len: usize,
+        certificate: *const Place,
+        list: *const Place,
+        moment: u64,
+        out: *mut ListStatusAt,
+        fault: *mut Fault,
+    ) -> u32;
+    pub fn der_revocation_status(
+        octets: *const u8,
+        len: usize,
+        certificate: *const Place,
+        lists: *const Place,
+        count: usize,
+        moment: u64,
+        use_deltas: u32,
+        out: *mut RevocationStatusAt,
+        fault: *mut Fault,
+    ) -> u32;
+    pub fn der_ocsp_status(
+        octets: *const u8,
+        len: usize,
+        inputs: *const OcspInputs,
+        responders: *mut ResponderAt,
+        room: usize,
+        key_hash: *mut u8,
+        key_hash_size: usize,
+        out: *mut OcspStatusAt,
+        fault: *mut Fault,
+    ) -> u32;
+    pub fn der_list_step_text(step: u32) -> *const core::ffi::c_char;
+    pub fn der_ocsp_step_text(step: u32) -> *const core::ffi::c_char;
+    // written by tools/bindings: writing calls
+    pub fn der_write_tbs_certificate(
+        octets: *const u8,
+        len: usize,
+        at: *const CertificateAt,
+        buffer: *mut u8,
+        buffer_len: usize,
+        written: *mut usize,
+        fault: *mut Fault,
+    ) -> u32;
+    pub fn der_write_certificate(
+        octets: *const u8,
+        len: usize,
+        at: *const CertificateAt,
+        buffer: *mut u8,
+        buffer_len: usize,
+        written: *mut usize,
+        fault: *mut Fault,
+    ) -> u32;
+    pub fn der_write_extension(
+        octets: *const u8,
+        len: usize,
+        at: *const ExtensionAt,
+        buffer: *mut u8,
+        buffer_len: usize,
+        written: *mut usize,
+        fault: *mut Fault,
+    ) -> u32;
+    pub fn der_write_tbs_cert_list(
+        octets: *const u8,
+        len: usize,
+        at: *const CertificateListAt,
+        buffer: *mut u8,
+        buffer_len: usize,
+        written: *mut usize,
+        fault: *mut Fault,
+    ) -> u32;
+    pub fn der_write_certificate_list(
+        octets: *const u8,
+        len: usize,
+        at: *const CertificateListAt,
+        buffer: *mut u8,
+        buffer_len: usize,
+        written: *mut usize,
+        fault: *mut Fault,
+    ) -> u32;
+    pub fn der_write_revoked_certificate(
+        octets: *const u8,
+        len: usize,
+        at: *const RevokedCertificateAt,
+        buffer: *mut u8,
+        buffer_len: usize,
+        written: *mut usize,
+        fault: *mut Fault,
+    ) -> u32;
+    pub fn der_write_certification_request_info(
+        octets: *const u8,
+        len: usize,
+        at: *const CertificationRequestAt,
+        buffer: *mut u8,
+        buffer_len: usize,
+        written: *mut usize,
+        fault: *mut Fault,
+    ) -> u32;
+    pub fn der_write_certification_request(
+        octets: *const u8,
+        len: usize,
+        at: *const CertificationRequestAt,
+        buffer: *mut u8,
+        buffer_len: usize,
+        written: *mut usize,
+        fault: *mut Fault,
+    ) -> u32;
+    pub fn der_write_ocsp_response(
+        octets: *const u8,
+        len: usize,
+        at: *const OcspResponseAt,
+        buffer: *mut u8,
+        buffer_len: usize,
+        written: *mut usize,
+        fault: *mut Fault,
+    ) -> u32;
+    pub fn der_write_response_data(
+        octets: *const u8,
+        len: usize,
+        at: *const BasicOcspResponseAt,
+        buffer: *mut u8,
+        buffer_len: usize,
+        written: *mut usize,
+        fault: *mut Fault,
+    ) -> u32;
+    pub fn der_write_basic_ocsp_response(
+        octets: *const u8,
+        len: usize,
+        at: *const BasicOcspResponseAt,
+        buffer: *mut u8,
+        buffer_len: usize,
+        written: *mut usize,
+        fault: *mut Fault,
+    ) -> u32;
+    pub fn der_write_single_response(
+        octets: *const u8,
+        len: usize,
+        at: *const SingleResponseAt,
+        buffer: *mut u8,
+        buffer_len: usize,
+        written: *mut usize,
+        fault: *mut Fault,
+    ) -> u32;
+    pub fn der_write_ocsp_request(
+        octets: *const u8,
+        len: usize,
+        at: *const OcspRequestAt,
+        buffer: *mut u8,
+        buffer_len: usize,
+        written: *mut usize,
+        fault: *mut Fault,
+    ) -> u32;
+    pub fn der_write_tbs_request(
+        octets: *const u8,
+        len: usize,
+        at: *const TbsRequestAt,
+        buffer: *mut u8,
+        buffer_len: usize,
+        written: *mut usize,
+        fault: *mut Fault,
+    ) -> u32;
+    pub fn der_write_request(
+        octets: *const u8,
+        len: usize,
+        at: *const RequestAt,
+        buffer: *mut u8,
+        buffer_len: usize,
+        written: *mut usize,
+        fault: *mut Fault,
+    ) -> u32;
+    pub fn der_write_cert_id(
+        octets: *const u8,
+        len: usize,
+        at: *const CertIdAt,
+        buffer: *mut u8,
+        buffer_len: usize,
+        written: *mut usize,
+        fault: *mut Fault,
+    ) -> u32;
+    // end of writing calls
+    pub fn der_write_encoding(
+        identifier: u32,
+        contents: *const u8,
+        len: usize,
+        buffer: *mut u8,
+        buffer_len: usize,
+        written: *mut usize,
+        fault: *mut Fault,
+    ) -> u32;
+    pub fn der_write_bit_string(
+        octets: *const u8,
+        len: usize,
+        buffer: *mut u8,
+        buffer_len: usize,
+        written: *mut usize,
+        fault: *mut Fault,
+    ) -> u32;
+    pub fn der_write_named_bits(
+        octets: *const u8,
+        len: usize,
+        buffer: *mut u8,
+        buffer_len: usize,
+        written: *mut usize,
+        fault: *mut Fault,
+    ) -> u32;
+    pub fn der_write_unsigned_integer(
+        octets: *const u8,
+        len: usize,
+        buffer: *mut u8,
+        buffer_len: usize,
+        written: *mut usize,
+        fault: *mut Fault,
+    ) -> u32;
+    pub fn der_write_ed25519_key(
+        octets: *const u8,
+        len: usize,
+        buffer: *mut u8,
+        buffer_len: usize,
+        written: *mut usize,
+        fault: *mut Fault,
+    ) -> u32;
+    pub fn der_write_p256_key(
+        octets: *const u8,
+        len: usize,
+        buffer: *mut u8,
+        buffer_len: usize,
+        written: *mut usize,
+        fault: *mut Fault,
+    ) -> u32;
+    pub fn der_write_rsa_key(
+        octets: *const u8,
+        len: usize,
+        buffer: *mut u8,
+        buffer_len: usize,
+        written: *mut usize,
+        fault: *mut Fault,
+    ) -> u32;
+    pub fn der_write_name_attribute(
+        type_: *const u8,
+        type_len: usize,
+        text: *const u8,
+        text_len: usize,
+        buffer: *mut u8,
+        buffer_len: usize,
+        written: *mut usize,
+        fault: *mut Fault,
+    ) -> u32;
+    pub fn der_write_time(
+        seconds: u64,
+        buffer: *mut u8,
+        buffer_len: usize,
+        written: *mut usize,
+        fault: *mut Fault,
+    ) -> u32;
+    pub fn der_write_generalized_time(
+        seconds: u64,
+        buffer: *mut u8,
+        buffer_len: usize,
+        written: *mut usize,
+        fault: *mut Fault,
+    ) -> u32;
 }

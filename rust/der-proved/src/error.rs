@@ -16,6 +16,12 @@ impl Error {
         Error { number: fault.number, position }
     }
 
+    /// A refusal with this number, which has no position.
+    #[cfg(feature = "alloc")]
+    pub(crate) fn numbered(number: u32) -> Error {
+        Error { number, position: None }
+    }
+
     /// The number of the kind, 1 to 17, which never changes its meaning.
     pub fn number(&self) -> u32 {
         self.number
@@ -39,3 +45,23 @@ impl fmt::Display for Error {
 }
 
 impl core::error::Error for Error {}
+
+/// Why nothing is written.
+#[derive(Clone, Copy, Debug, PartialEq, Eq)]
+pub enum WriteError {
+    /// The buffer is too short; one of so many octets is long enough.
+    ShortBuffer(usize),
+    /// A part is refused.
+    Refused(Error),
+}
+
+impl fmt::Display for WriteError {
+    fn fmt(&self, f: &mut fmt::Formatter<'_>) -> fmt::Result {
+        match self {
+            WriteError::ShortBuffer(count) => write!(f, "the buffer is too short; {count} octets are enough"),
+            WriteError::Refused(error) => error.fmt(f),
+        }
+    }
+}
+
+impl core::error::Error for WriteError {}

@@ -1,6 +1,8 @@
 //! The messages of PEM files: those that `DER_TEST_FILES` names, and the system's certificates.
 #![allow(dead_code)]
 
+pub mod signer;
+
 use std::path::PathBuf;
 use std::{env, fs};
 
