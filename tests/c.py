@@ -19,6 +19,7 @@ import warnings
 
 from lib import ROOT, text_of
 from lib.c_examples import try_examples
+from lib.c_paths import try_pkits
 from lib.packages import try_go, try_other_version, try_python, try_rust
 from lib.readme_lines import try_lines
 from lib.trials import Trials, write_files
@@ -139,7 +140,7 @@ def try_c(trials, room, sample, files):
     make = ["make", "-s", "-C", f"{ROOT}/c", f"BUILD={room}/build", f"OBJECT={room}/proved.a"]
     trials.run("make", make)
     trials.run("make install", [*make, "install", f"PREFIX={room}/prefix"])
-    names = {"calls": "calls from C", "inner": "comparisons and texts from C", "canonical": "canonical encodings from C", "rules": "rules of RFC 5280 from C", "build": "messages written from C"}
+    names = {"calls": "calls from C", "inner": "comparisons and texts from C", "canonical": "canonical encodings from C", "chains": "chains from C", "rules": "rules of RFC 5280 from C", "statuses": "statuses from C", "build": "messages written from C"}
     # (the rules are broken by single octets of a certificate of openssl's, whose extensions are known)
     given = {name: [f"{room}/plain.der" if name == "rules" else sample] for name in names}
     given["build"] += make_der(room) if os.path.isfile(f"{room}/own.pem") else []
@@ -159,6 +160,7 @@ def try_c(trials, room, sample, files):
             try_examples(trials, room, f"{room}/build")
         else:
             trials.left_out("the other examples in C", "openssl")
+        try_pkits(trials, f"{room}/build/path")
     if shutil.which("valgrind"):
         for name, what in names.items():
             words = ["valgrind", "-q", "--error-exitcode=9", "--leak-check=full", f"{room}/build/{name}", *given[name]]

@@ -34,7 +34,7 @@ from lib.maker import everything, few, spoilt
 from lib.maker.workshop import AT_ONCE, Workshop
 from lib.openssl_says import few as said_of_few
 from lib.openssl_says import said_by
-from lib.reader import kinds, pem
+from lib.reader import items, kinds, pem
 from lib.reader.identifiers import IRREGULAR
 from lib.reader.octets import Refused
 
@@ -84,8 +84,19 @@ def is_wrong_part(row):
     return "<malformed>" in row[3] or IRREGULAR in row[3]
 
 
-def compare_rows(what, rows, message):
-    """Each field of a message: its place, its name and its value."""
+def compare_extensions(what, octets, field):
+    """The extensions that a field has as items; of a value that cannot be read, its identifier and whether it is critical."""
+    wanted, found = items.extensions_of(field["name"], octets, field["offset"]), field.get("extensions", [])
+    unread = [it["extnValue"] is None for it in wanted] + [False] * len(found)
+    wanted = [{**it, "extnValue": {}} if it["extnValue"] is None else it for it in wanted]
+    found = [{**it, "extnValue": {}} if is_unread else it for it, is_unread in zip(found, unread)]
+    answers["items"] += len(found)
+    if wanted != found:
+        fail(f"{what}, {field['name']} at {field['offset']}: certview has {found}, the reader {wanted}")
+
+
+def compare_rows(what, octets, rows, message):
+    """Each field of a message: its place, its name, its value and its extensions."""
     found = shown(message)
     for at, (row, field) in enumerate(zip(rows, found)):
         fields[message["kind"]] += 1
@@ -94,6 +105,7 @@ def compare_rows(what, rows, message):
             return fail(f"{what}, field {at}: certview has {field}, the reader {row}")
         if is_wrong != bool(message["fields"][at].get("malformed")):
             return fail(f"{what}, field {at}: {message['fields'][at]}")
+        compare_extensions(what, octets, message["fields"][at])
     if len(rows) != len(found):
         longer = rows if len(rows) > len(found) else found
         fail(f"{what}: {len(found)} fields and not {len(rows)}, the first of the others is {longer[min(len(rows), len(found))]}")
@@ -113,7 +125,7 @@ def compare_message(what, kind, octets, message, refused):
     if (message["kind"], message["offset"], message["length"]) != (kind, 0, len(octets)):
         fail(f"{what}: certview has {message['kind']} of {message['length']} octets, and not {kind} of {len(octets)}")
         return False
-    compare_rows(what, rows, message)
+    compare_rows(what, octets, rows, message)
     return True
 
 
@@ -260,7 +272,7 @@ def compare_spoilt(program, shop):
         if certview != answer:
             fail(f"{os.path.basename(path)}, {about}: certview: {certview} as {kind_found} ({document.get('refused')}), the reader: {answer}")
         elif answer == "read":
-            compare_rows(f"{os.path.basename(path)}, {about}", rows, messages[0])
+            compare_rows(f"{os.path.basename(path)}, {about}", octets, rows, messages[0])
 
 
 def store_files(folder):
@@ -345,10 +357,10 @@ def tell_counts(words):
     least = LEAST_FEW if words.few else LEAST
     if not words.only and sum(counts.values()) < least:
         fail(f"there are {sum(counts.values())} files, and not {least}")
-    texts, faults = answers.pop("text", 0), answers.pop("planted", 0)
+    texts, faults, extensions = (answers.pop(it, 0) for it in ("text", "planted", "items"))
     if words.spoilt:
         told += "; of the spoilt ones " + ", ".join(f"{count} {answer}" for answer, count in sorted(answers.items()))
-    print(f"files: {sum(counts.values())} files ({told}); {sum(fields.values())} fields compared, "
+    print(f"files: {sum(counts.values())} files ({told}); {sum(fields.values())} fields compared, {extensions} extensions among them, "
           f"{sum(said.values())} beside what openssl says, {texts} texts beside their documents; "
           f"{faults} wrong documents found; {len(wrong)} wrong")
 

@@ -19,7 +19,7 @@ import sys
 import tempfile
 
 sys.dont_write_bytecode = True
-from lib import broken, documents, hand_made, irregular, programs, rare, rule_rows
+from lib import broken, chain_parts, documents, hand_made, irregular, item_rows, programs, rare, rule_rows
 
 CRATE = f"{programs.ROOT}/crates/certview"
 TESTS = f"{programs.ROOT}/crates/programs_tests/src/tests/certview"
@@ -308,6 +308,31 @@ def show_what_is_alike(program):
             fail(f"{shown} twice")
 
 
+def extensions_of(program, octets):
+    """The extensions of a message's fields in JSON, with the text of each field."""
+    document = json.loads(run(program, ["--json"], octets)[1])
+    return [(it["extensions"], it["value"]) for it in document["inputs"][0]["messages"][0]["fields"] if "extensions" in it]
+
+
+def show_items(program):
+    """Of each extension JSON has the items, whose texts stand in the value in their order."""
+    is_valid = documents.validator()
+    for part, wanted in item_rows.rows():
+        octets = hand_made.certificate(more=[part])[0]
+        ((found, text),) = extensions_of(program, octets)
+        critical = part[2 + part[3] + 2 :].startswith(b"\x01\x01\xff")
+        front = {"id": text.split(" ")[0].rstrip(","), "critical": ", critical, " in text}
+        says = {"id": found[0]["extnID"]["id"], "critical": found[0]["critical"]}
+        ends(f"items of {text}", (found[0]["extnValue"], says, len(found)), (wanted, front, 1))
+        if critical != found[0]["critical"] or not documents.has_in_order(text, documents.texts_of(found)):
+            fail(f"items of {text}: {found}")
+        if is_valid:
+            is_valid.validate(json.loads(run(program, ["--json"], octets)[1]))
+    entries, wanted = item_rows.entry()
+    ((found, _),) = extensions_of(program, hand_made.revocation(entries=entries)[0])
+    ends("items of an entry", found, wanted)
+
+
 EARLY = "a time before 1970, which is not read"
 
 
@@ -472,6 +497,47 @@ def refused_files(folder):
     return [*(f"{folder}/refused-{name}" for name in files), f"{folder}/none", folder]
 
 
+def show_paths(program, folder):
+    """Paths among certificates in any order, a certificate that a step refuses, and no chain to an anchor."""
+    files = path_files(folder)
+    first, second, others, root, other = (f"{folder}/{it}" for it in files)
+    said, moment = b"a path, if each signature verifies; none was verified\n", ["--at", "2026-12-01"]
+    lines = [b"anchor: O=Mill, CN=Root\n", b"certificate: O=Mill, CN=Sub\n", b"certificate: CN=mill.example\n"]
+    words = ["--path", "--anchors", root, *moment]
+    ends("a path", run(program, [*words, first, others]), (0, said + b"".join(lines), b""))
+    ends("a path in one file", run(program, [*words, second]), (0, said + b"".join(lines), b""))
+    early = [*words[:3], "--at", "2019-12-31T23:59:59Z", first, others]
+    reason = b", refused by RFC 5280 6.1.3 (a)(2): it is not valid at the moment\n"
+    refused = b"no path; no signature was verified\n" + lines[0] + lines[1][:-1] + reason + lines[2]
+    ends("a path at another moment", run(program, early), (1, refused, b""))
+    none = b"no path: no chain of these certificates leads to an anchor\n"
+    ends("a path from another anchor", run(program, ["--path", "--anchors", other, *moment, first, others]), (1, none, b""))
+    ends("a path without the certificates between", run(program, [*words, first]), (1, none, b""))
+    ends("the path of an anchor", run(program, [*words, root, others]), (0, said + lines[0] + b"certificate: O=Mill, CN=Root\n", b""))
+    for given in (["--path", first], ["--anchors", root, first], ["--json", *words, first]):
+        status, text, told = run(program, given)
+        if status != 2 or text or b"--path and --anchors FILE are given together, and without --json" not in told:
+            fail(f"{given[0]} alone: {status}, {text!r}, {told!r}")
+    missing = f"certview: {folder}/none: input failed\n".encode()
+    ends("anchors that are not there", run(program, ["--path", "--anchors", f"{folder}/none", first]), (2, b"", missing))
+
+
+def path_files(folder):
+    """Writes the files of `show_paths`, and returns their names: an end certificate, all in one, those between, the anchor, and another."""
+    root, sub, end = (chain_parts.name(*it) for it in ([("O", "Mill"), ("CN", "Root")], [("O", "Mill"), ("CN", "Sub")], [("CN", "mill.example")]))
+    dates, ca = (1577836800, 2366841600), [chain_parts.basic_constraints()]
+    plans = [(end, sub, 2, 1, []), (sub, root, 1, 0, ca), (root, root, 0, 0, ca), (end, end, 3, 3, ca)]
+    signer = chain_parts.NoSigner()
+    last, between, anchor, other = (chain_parts.made(chain_parts.Plan(*it[:4], *dates, it[4]), signer) for it in plans)
+    blocks = [pem("CERTIFICATE", it) for it in (last, between, anchor, other)]
+    key = pem("PUBLIC KEY", message("ED25519_PUBLIC"))
+    texts = {"end.der": last, "all.pem": blocks[0] + key + blocks[3] + blocks[1] + blocks[1], "between.pem": blocks[3] + blocks[1], "root.pem": blocks[2], "other.pem": blocks[3]}
+    for name, text in texts.items():
+        with open(f"{folder}/{name}", "wb") as file:
+            file.write(text)
+    return list(texts)
+
+
 def write_documents(program, folder):
     """A document has of each file what its text has, and is of the schema; its status is the greatest of the files'."""
     is_valid = documents.validator()
@@ -518,7 +584,7 @@ def write_one_document(program, is_valid, folder):
     )
     for words, given, inputs in rows:
         document = json.loads(run(program, words, given)[1])
-        ends(" ".join(words), document, {"inputs": [inputs]})
+        ends(" ".join(words), {"inputs": [documents.as_told(it) for it in document["inputs"]]}, {"inputs": [inputs]})
         if is_valid:
             is_valid.validate(document)
 
@@ -565,7 +631,8 @@ def show_long_text(program, library):
     bundle, shown = long_text(50)
     ends("a long text", run(program, [], bundle), (0, shown, b""))
     document = run(program, ["--json"], bundle)[1]
-    ends("a long document", json.loads(document), {"inputs": [documents.input_of("-", shown.decode(), "")]})
+    told = [documents.as_told(it) for it in json.loads(document)["inputs"]]
+    ends("a long document", told, [documents.input_of("-", shown.decode(), "")])
     for number in (1, 2, 4):
         settings = {"LD_PRELOAD": library, "WRITE_PIECE": "20000", "WRITE_FAILS": str(number)}
         wanted = (2, document[: 20000 * (number - 1)], b"certview: output failed\n")
@@ -597,7 +664,7 @@ def close_the_pipe(program):
 
 def refuse_memory(program):
     """In the program of `rt try` a request of a known number is refused. A bundle comes to it, and nothing of it is written."""
-    bundle = CERTIFICATE * 400
+    bundle = CERTIFICATE * 1000
     for words in ([], ["--json"]):
         status, text, said = run(program, words, bundle)
         wanted = documents.input_of("-", "", "certview: out of memory\n")
@@ -625,10 +692,12 @@ def main():
         show_what_is_rare(program)
         show_what_is_irregular(program)
         show_what_is_alike(program)
+        show_items(program)
         show_early_times(program)
         name_all_fields(program, show_some_fields(program, folder))
         check_rules(program)
         show_moments(program)
+        show_paths(program, folder)
         write_documents(program, folder)
         install(program, folder)
         fail_reads_and_writes(program, library)

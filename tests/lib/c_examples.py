@@ -307,6 +307,28 @@ def try_lists(room):
     room.holds("crl_check: the entry", told == "revoked, at 1767323045, reason keyCompromise\n", told)
 
 
+def try_chains(room):
+    """path beside openssl verify -crl_check_all, after the lists."""
+    rows = [
+        ("valid", "ca.der leaf.der", "list.der", 0), ("valid", "ca.pem leaf.pem", "list.pem", 0), ("valid", "ed_ca.der by_ed.der", "ed_list.der", 0),
+        ("valid", "rsa_ca.der by_pss.der", "pss_list.der", 0), ("valid", "ca.der leaf.der", "by_other.der list.der", 0),
+        ("refused 1 6.1.3 (a)(1)", "again.der leaf.der", "list.der", 0), ("refused 1 6.1.3 (a)(2)", "ca.der leaf.der", "list.der", 101),
+        ("refused 1 6.1.3 (a)(3)", "ca.der bare.der", "list.der", 0), ("refused 1 6.1.3 (a)(3)", "ca.der leaf.der", "bad_list.der", 0),
+        ("refused 1 6.1.3 (a)(3)", "ca.der leaf.der", "by_other.der", 0), ("refused 1 6.1.3 (a)(3)", "ca.der leaf.der", "list.der", 31),
+        ("refused 1 6.1.3 (a)(4)", "other.der leaf.der", "by_other.der", 0), ("refused 1 6.1.4 (k)", "ca.der leaf.der by_leaf.der", "list.der", 0),
+        ("refused 1 6.1.5 (f)", "ca.der unknown.der", "list.der", 0),
+    ]
+    for wanted, names, lists, days in rows:
+        moment = room.now + days * DAY
+        status, told = room.program("path", moment, "-", "-", *names.split(), "-", *lists.split())
+        anchor, *others = (f"{name.split('.')[0]}.pem" for name in names.split())
+        words = " ".join(f"-CRLfile {name.split('.')[0]}.pem" for name in lists.split())
+        words += "".join(f" -untrusted {name}" for name in others[:-1])
+        beside, _ = room.openssl(f"verify -no-CApath -no-CAfile -partial_chain -crl_check_all -attime {moment} -trusted {anchor} {words} {others[-1]}")
+        room.same(f"path: {names}, {lists}, in {days} days", wanted, told.strip(), wanted if bool(beside) == wanted.startswith("refused") else beside)
+        room.holds(f"path: the status for {names}, {lists}", (status == 0) == (wanted == "valid"), status)
+
+
 def make_requests(room):
     """Requests of several keys, with and without names of hosts, and spoilt ones."""
     names = "-addext subjectAltName=DNS:r.example,IP:192.0.2.9"
@@ -462,6 +484,6 @@ def try_examples(trials, folder, build):
     """Tries each program on what openssl makes in a folder."""
     before, room = trials.passed, Room(trials, folder, build)
     make_certificates(room)
-    for of in (try_certificates, try_hosts, try_answers, try_lists, try_requests, try_pkcs12, try_signatures, try_stamps):
+    for of in (try_certificates, try_hosts, try_answers, try_lists, try_chains, try_requests, try_pkcs12, try_signatures, try_stamps):
         of(room)
     print(f"c: the programs of c/examples, beside openssl: {trials.passed - before} answers", flush=True)

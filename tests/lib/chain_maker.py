@@ -5,7 +5,7 @@ chains are valid."""
 
 import calendar
 import random
-from dataclasses import dataclass
+from dataclasses import dataclass, replace
 
 from . import chain_parts as parts
 from .chain_parts import IA5, PRINTABLE, UTF8, NoSigner, Plan, made, name
@@ -19,6 +19,7 @@ ANCHOR = name(("O", "Mill"), ("CN", "the anchor"))
 # So many chains have each step fail first in one of them.
 ENOUGH = 1000
 THEMES = ("lengths", "usages", "dates", "names", "constraints", "policies", "unknown", "versions")
+KINDS = ["host", "mail", "uri", "address", "directory"]
 HOSTS = ["example.com", "a.example.com", "b.a.example.com", "A.Example.COM", "xexample.com", "mill.example", "example.org", "com", "*.example.com"]
 OF_HOSTS = ["example.com", "a.example.com", "EXAMPLE.com", "mill.example", "com", "", "org"]
 MAILS = ["a@example.com", "A@example.com", "a@EXAMPLE.com", "b@a.example.com", "b@mill.example", "a@example.org"]
@@ -43,8 +44,8 @@ class Chain:
 
 
 class Maker:
-    def __init__(self, seed, signer=None):
-        self.random, self.signer = random.Random(seed), signer or NoSigner()
+    def __init__(self, seed, signer=None, is_constrained=False):
+        self.random, self.signer, self.is_constrained = random.Random(seed), signer or NoSigner(), is_constrained
         self.anchor = made(Plan(ANCHOR, ANCHOR, 0, 0, 0, NEVER, [parts.basic_constraints(), parts.key_usage(5, 6)]), self.signer)
 
     def hits(self, chance):
@@ -64,6 +65,8 @@ class Maker:
             getattr(self, theme)(plans)
         at = self.moment(plans) if "dates" in themes else NOW
         settings = self.inputs(at, "policies" in themes)
+        if self.is_constrained and self.hits(0.9 if "constraints" in themes else 0.1):
+            settings = replace(settings, constraints=parts.constraints(*self.subtrees(self.some(KINDS, 1, 2))))
         for plan in plans:
             self.random.shuffle(plan.extensions)
         return Chain(f"{' '.join(sorted(themes))}, {count}", self.anchor, [made(it, self.signer) for it in plans], settings)
@@ -188,11 +191,10 @@ class Maker:
 
     def constraints(self, plans):
         """Constraints of some kinds, and names of these kinds."""
-        kinds = self.some(["host", "mail", "uri", "address", "directory"], 1, 2)
+        kinds = self.some(KINDS, 1, 2)
         for plan in plans[:-1]:
             if self.hits(0.6):
-                permitted = [self.base(self.pick(kinds)) for _ in range(self.pick([0, 1, 1, 2, 3]))]
-                excluded = [self.base(self.pick(kinds)) for _ in range(self.pick([0, 0, 0, 1]))]
+                permitted, excluded = self.subtrees(kinds)
                 if permitted or excluded:
                     plan.extensions.append(parts.name_constraints(permitted, excluded, critical=self.hits(0.8)))
             if self.hits(0.1):
@@ -202,6 +204,11 @@ class Maker:
             last.extensions.append(parts.alternative_names(*(self.named(self.pick(kinds)) for _ in range(self.pick([1, 1, 2, 3]))), critical=self.hits(0.2)))
         if self.hits(0.15):
             last.subject = self.pick([name(), name(("O", "Mill"), ("emailAddress", self.pick(MAILS), IA5))])
+
+    def subtrees(self, kinds):
+        """Permitted and excluded subtrees."""
+        permitted = [self.base(self.pick(kinds)) for _ in range(self.pick([0, 1, 1, 2, 3]))]
+        return permitted, [self.base(self.pick(kinds)) for _ in range(self.pick([0, 0, 0, 1]))]
 
     def base(self, kind):
         """A base of a subtree; seldom with a minimum or a maximum, or one that is left undefined."""
@@ -225,6 +232,7 @@ class Maker:
         return self.of_octets(kind, self.pick({"host": HOSTS, "mail": MAILS, "uri": URIS, "address": ADDRESSES}[kind]))
 
 
-def chains(seed, count, signer=None):
-    maker = Maker(seed, signer)
+def chains(seed, count, signer=None, is_constrained=False):
+    """Random chains; some have initial constraints of names, if they are asked for."""
+    maker = Maker(seed, signer, is_constrained)
     return [maker.chain() for _ in range(count)]

@@ -82,9 +82,14 @@ def subtree(base, minimum=None, maximum=None):
     return sequence(base, *(b"" if it is None else tlv(tag, integer(it)[2:]) for tag, it in ((0x80, minimum), (0x81, maximum))))
 
 
-def name_constraints(permitted=(), excluded=(), critical=True):
+def constraints(permitted=(), excluded=()):
+    """A NameConstraints."""
     parts = [tlv(tag, *(it if it[:1] == b"\x30" else subtree(it) for it in listed)) for tag, listed in ((0xA0, permitted), (0xA1, excluded)) if listed]
-    return extension(NAME_CONSTRAINTS, sequence(*parts), critical)
+    return sequence(*parts)
+
+
+def name_constraints(permitted=(), excluded=(), critical=True):
+    return extension(NAME_CONSTRAINTS, constraints(permitted, excluded), critical)
 
 
 class NoSigner:

@@ -65,13 +65,35 @@ def messages_of(text):
     return messages, refused
 
 
+def texts_of(found):
+    """The texts of items, but of the kinds of names, in their order."""
+    if isinstance(found, dict):
+        return [text for name, it in found.items() if name != "kind" for text in texts_of(it)]
+    if isinstance(found, list):
+        return [text for it in found for text in texts_of(it)]
+    return [found] if isinstance(found, str) else []
+
+
+def has_in_order(value, texts):
+    """Whether a value has these texts one after another."""
+    at = 0
+    for text in texts:
+        at = value.find(text, at)
+        if at < 0:
+            return False
+        at += len(text)
+    return True
+
+
 def as_told(given):
     """The part of a document that a file has, without the faults that the text does not tell: those of values that are shown all
-    the same, though their contents octets are none of their type."""
+    the same, though their contents octets are none of their type. And without the items of extensions, if the value has their
+    texts in this order."""
     def field_as_told(field):
         wanted = field_of(LINE.fullmatch(f"{'':13}{field['name']}: {field['value']}")).get("malformed", [])
         kept = [it for it in field.get("malformed", []) if it in wanted]
-        return {**{key: it for key, it in field.items() if key != "malformed"}, **({"malformed": kept} if kept else {})}
+        left_out = ["malformed"] + ["extensions"] * has_in_order(field["value"], texts_of(field.get("extensions", [])))
+        return {**{key: it for key, it in field.items() if key not in left_out}, **({"malformed": kept} if kept else {})}
 
     messages = [{key: [field_as_told(one) for one in it] if key == "fields" else it for key, it in message.items()}
                 for message in given["messages"]]

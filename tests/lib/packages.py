@@ -6,6 +6,7 @@ import re
 import shutil
 import subprocess
 import sys
+import time
 import warnings
 
 from . import ROOT
@@ -37,6 +38,22 @@ def told_by_cryptography(names):
     return lines
 
 
+def try_path(trials, language, room, command, **others):
+    """What the example `path` says of chains of one certificate: of the anchor's own, of one whose signature is wrong, and of one
+    that the anchor has not issued."""
+    if not os.path.isfile(f"{room}/own.der"):
+        return
+    with open(f"{room}/own.der", "rb") as file:
+        octets = file.read()
+    with open(f"{room}/broken.der", "wb") as file:
+        file.write(octets[:-1] + bytes([octets[-1] ^ 1]))
+    for name, text in {"own": "valid", "broken": "refused 0 6.1.3 (a)(1)", "plain": "refused 0 6.1.3 (a)(4)"}.items():
+        words = [*command, str(int(time.time())), f"{room}/own.der", f"{room}/{name}.der"]
+        ran = subprocess.run(words, text=True, capture_output=True, **others)
+        told = ran.stdout.strip()
+        trials.tell(f"a chain in {language}: {text}", told != text and f"{told}{ran.stderr[-500:]}")
+
+
 def seen_by_cryptography(line):
     """A line of the example in Rust as `cryptography` tells it; none of what it does not tell."""
     if line.startswith("extension "):
@@ -60,7 +77,10 @@ def try_rust(trials, room, names, files):
         trials.run("the packages in Rust", ["cargo", "package", "-q", "--workspace", "--offline", "--allow-dirty"], **others)
     others["env"]["RUSTDOCFLAGS"] = "-D warnings"
     trials.run("the pages of the crates in Rust", ["cargo", "doc", "-q", "--offline", "--no-deps"], **others)
-    trials.run("the example in Rust", ["cargo", "build", "-q", "--offline", "--release", "--examples"], **others)
+    trials.run("the crate in Rust without memory", ["cargo", "check", "-q", "--offline", "-p", "der-proved", "--no-default-features"], **others)
+    trials.run("the examples in Rust", ["cargo", "build", "-q", "--offline", "--release", "--examples"], **others)
+    if shutil.which("openssl"):
+        try_path(trials, "Rust", room, [f"{room}/target/release/examples/path"])
     ran = subprocess.run([f"{room}/target/release/examples/fields", *names], text=True, capture_output=True)
     wanted = told_by_cryptography(names)
     if wanted is None:
@@ -112,6 +132,8 @@ def try_python(trials, room, files):
     words = [sys.executable, "-B", "-W", "ignore", "-m", "unittest", "discover", "-q", "-s", "tests"]
     told = trials.run("the tests in Python", words, **others)
     print("c: Python:", *re.findall(r"^\d+ changed messages.*", told, re.M))
+    if subprocess.run([sys.executable, "-c", "import cryptography"], capture_output=True).returncode == 0:
+        try_path(trials, "Python", room, [sys.executable, "-B", "-W", "ignore", f"{ROOT}/python/examples/path.py"], env=others["env"])
     try_wheel(trials, room)
 
 
@@ -129,6 +151,8 @@ def try_go(trials, room, files):
     print("c: Go beside crypto/x509:", *re.findall(r"\d+ certificates", told))
     told = trials.run("the fuzzer of Go", ["go", "test", "-run=^$", "-fuzz=FuzzRead", f"-fuzztime={FUZZ_SECONDS}s", "./der"], **others)
     print("c: the fuzzer of Go:", *re.findall(r"execs: \d+", told)[-1:])
+    trials.run("the example in Go", ["go", "build", "-o", f"{room}/path-go", "./examples/path"], **others)
+    try_path(trials, "Go", room, [f"{room}/path-go"])
 
 
 def try_other_version(trials, room, sample):

@@ -235,13 +235,16 @@ class Certificate:
     def name_constraints(self):
         """The permitted and the excluded subtrees: a base, its minimum and its maximum (4.2.1.10); nothing in place of each."""
         held = self.value(NAME_CONSTRAINTS)
-        if held is None:
-            return None, None
-        fields = held.has(0x30).fields()
-        found = tuple(None if it is None else [subtree_of(one) for one in it.fields().rest(0x30)] for it in (fields.option(0xA0), fields.option(0xA1)))
-        fields.close()
-        refuse_unless(all(it is None or it for it in found), "no subtree")
-        return found
+        return (None, None) if held is None else constraints_of(held)
+
+
+def constraints_of(encoding):
+    """The permitted and the excluded subtrees of a NameConstraints."""
+    fields = encoding.has(0x30).fields()
+    found = tuple(None if it is None else [subtree_of(one) for one in it.fields().rest(0x30)] for it in (fields.option(0xA0), fields.option(0xA1)))
+    fields.close()
+    refuse_unless(all(it is None or it for it in found), "no subtree")
+    return found
 
 
 def subtree_of(encoding):

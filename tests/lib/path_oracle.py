@@ -7,9 +7,9 @@ that fails, in the order of the certificates and of the letters, is the answer. 
 from dataclasses import dataclass, field
 
 from .path_certificate import (BASIC_CONSTRAINTS, CERTIFICATE_POLICIES, EXTENDED_KEY_USAGE, INHIBIT_ANY_POLICY, KEY_USAGE, NAME_CONSTRAINTS,
-                               POLICY_CONSTRAINTS, POLICY_MAPPINGS, SUBJECT_ALT_NAME, Certificate)
+                               POLICY_CONSTRAINTS, POLICY_MAPPINGS, SUBJECT_ALT_NAME, Certificate, constraints_of)
 from .path_names import is_excluded, is_permitted, names_of
-from .reader.octets import Refused
+from .reader.octets import Refused, message_of
 
 ANY_POLICY = bytes.fromhex("551d2000")
 # The extensions that section 4.2 has applications recognize, and policyMappings, which 6.1.4 processes.
@@ -24,13 +24,15 @@ class Fails(Exception):
 
 @dataclass(frozen=True)
 class Settings:
-    """The inputs (6.1.1 (b) to (g)): the moment in seconds from 1970; user-initial-policy-set, as contents octets; and what starts set."""
+    """The inputs (6.1.1 (b) to (i)): the moment in seconds from 1970; user-initial-policy-set, as contents octets; what starts set; and
+    the initial subtrees, as the octets of a NameConstraints, or none."""
 
     moment: int
     policies: frozenset = frozenset([ANY_POLICY])
     explicit_policy: bool = False
     mapping_inhibit: bool = False
     any_policy_inhibit: bool = False
+    constraints: bytes = b""
 
 
 @dataclass
@@ -131,6 +133,13 @@ class State:
         self.inhibit_any_policy = 0 if given.any_policy_inhibit else self.count + 1  # (e)
         self.policy_mapping = 0 if given.mapping_inhibit else self.count + 1  # (f)
         self.max_path_length = self.count  # (k)
+        if given.constraints:  # (b), (c)
+            self.constrain(*constraints_of(message_of(given.constraints)))
+
+    def constrain(self, permitted, excluded):
+        """6.1.4 (g)."""
+        self.permitted += [permitted] if permitted else []
+        self.excluded += excluded or []
 
     def verify(self, holds, letter):
         if not holds and self.failures is None:
@@ -164,9 +173,7 @@ def prepare_for_next(state, certificate):
     """6.1.4."""
     process_mappings(state, certificate)
     state.issuer = certificate.subject  # (c)
-    permitted, excluded = certificate.name_constraints
-    state.permitted += [permitted] if permitted else []  # (g)(1)
-    state.excluded += excluded or []  # (g)(2)
+    state.constrain(*certificate.name_constraints)  # (g)
     if not certificate.is_self_issued:  # (h)
         state.explicit_policy = max(state.explicit_policy - 1, 0)
         state.policy_mapping = max(state.policy_mapping - 1, 0)

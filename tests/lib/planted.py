@@ -24,6 +24,8 @@ def wrong_documents(document):
             yield f"field {at} has one octet fewer", with_field(document, at, "length", field["length"] - 1)
         yield f"field {at} has another name", with_field(document, at, "name", field["name"] + "s")
         yield f"field {at} has another value", with_field(document, at, "value", field["value"][:-1] or "x")
+        for what, other in with_items(field["extensions"]) if "extensions" in field else ():
+            yield f"in the extensions of field {at}: {what}", with_field(document, at, "extensions", other)
     for at, (one, other) in enumerate(zip(fields, fields[1:])):
         if one["value"] != other["value"]:
             swapped = with_field(document, at, "value", other["value"])
@@ -37,6 +39,25 @@ def wrong_documents(document):
         message_of(other)[name] = value
         yield f"another {name} of the whole", other
     yield "refused", {**document, "messages": [], "refused": {"number": 3, "words": "no", "position": 1, "field": None}}
+
+
+def with_items(found):
+    """What is wrong in each, and the items of extensions with one other item: another name, another text or another flag."""
+    if isinstance(found, dict):
+        for name, it in found.items():
+            for what, other in with_items(it):
+                yield what, {**found, name: other}
+            yield f"an item is called otherwise than {name}", {(f"{one}s" if one == name else one): held for one, held in found.items()}
+    elif isinstance(found, list):
+        for at, it in enumerate(found):
+            for what, other in with_items(it):
+                yield what, [*found[:at], other, *found[at + 1 :]]
+        if found:
+            yield "an item is left out", found[:-1]
+    elif isinstance(found, bool):
+        yield "a flag is turned", not found
+    else:
+        yield f"{found} is another text", f"{found}x"
 
 
 def exchanged(document, one, other):

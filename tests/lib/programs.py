@@ -2,7 +2,7 @@
 
 `rt try` keeps no file, so keep.c is linked in, which copies the program to where it is asked for. That needs a C compiler.
 In the program the request for memory of the number REFUSED is refused: what runs before a call decides which of its
-requests that is.
+requests that is. In certview it is a later one, since a document of JSON takes some for each text.
 """
 
 import os
@@ -15,6 +15,7 @@ HERE = os.path.dirname(os.path.abspath(__file__))
 TESTS = os.path.dirname(HERE)
 ROOT = os.path.dirname(TESTS)
 REFUSED = 8000
+REFUSED_IN_CERTVIEW = 20000
 COMPILER = os.environ.get("CC") or "cc"
 
 
@@ -44,7 +45,8 @@ def build(name, to, extra=None, uses="der_asn1_types", refuses=True):
         shutil.copy(f"{HERE}/keep.c", f"{crate}/c/keep.c")
         kept = f"{work}/kept"
         settings = {**os.environ, "RT_ALLOW_C": name, "CFLAGS": f'-DKEEP_AT=\\"{kept}\\"'}
-        words = ["rt", "try", *(["--fail-alloc", str(REFUSED)] if refuses else [])]
+        number = REFUSED_IN_CERTVIEW if name == "certview" else REFUSED
+        words = ["rt", "try", *(["--fail-alloc", str(number)] if refuses else [])]
         how = {"stdin": subprocess.DEVNULL, "stdout": subprocess.PIPE, "stderr": subprocess.STDOUT}
         ran = subprocess.run(words, cwd=crate, env=settings, **how)
         # certview answers the empty input with a status of its own.

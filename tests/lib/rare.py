@@ -56,6 +56,26 @@ def carried():
     return [row(signed(b"text", set_of, lists), *shown), row(stamp, (NULL, "time stamp", "malformed (4"))]
 
 
+def of_other_content():
+    """Signed data of PKCS #7, whose content is a value of any type; one with a signer that cannot be read."""
+    kind, value = identifier(bytes.fromhex("2b060104018237020104")), tlv(0x30, b"\x02\x01\x05")
+    other = tlv(0xA3, b"\x06\x01\x2b", NULL)
+    digest = tlv(0x30, identifier(bytes.fromhex("608648016503040201")))
+    inner = tlv(0x30, kind, tlv(0xA0, value))
+    whole = content(DATA + b"\x02", tlv(0x30, b"\x02\x01\x01", tlv(0x31, digest), inner, tlv(0xA0, other), tlv(0xA1), tlv(0x31)))
+    shown = (
+        (b"\x02\x01\x01", "version", "1"),
+        (digest, "digest algorithm", "2.16.840.1.101.3.4.2.1 (sha256)"),
+        (kind, "content type", "1.3.6.1.4.1.311.2.1.4"),
+        (value, "content", "3 octets"),
+        (other, "certificate of another format", "1.3"),
+    )
+    held = tlv(0x30, b"\x02\x01\x01", tlv(0x31), inner, tlv(0x31, NULL))
+    absent = tlv(0x30, b"\x02\x01\x01", tlv(0x31), tlv(0x30, kind), tlv(0x31, NULL))
+    wrong = [row(content(DATA + b"\x02", it), (it, "signed data", "malformed (4")) for it in (held, absent)]
+    return [row(whole, *shown), *wrong]
+
+
 def files():
     """PKCS #12 files: what cannot be read, and bags of other kinds."""
 
@@ -121,4 +141,4 @@ def groups():
 
 
 def rows():
-    return contents() + carried() + files() + keys() + statuses() + requests() + groups()
+    return contents() + carried() + of_other_content() + files() + keys() + statuses() + requests() + groups()

@@ -37,9 +37,10 @@ def prepare(room):
     run(room, "apt-get", "update", "-q")
 
 
-def fetch(room):
-    """The archives of the packages, fetched where they are not there yet."""
-    missing = [name for name in SOURCES if not archives(room, name)]
+def fetch(room, more=()):
+    """The archives of the packages and of more sources, fetched where they are not there yet."""
+    sources = [*SOURCES, *more]
+    missing = [name for name in sources if not archives(room, name)]
     others = [name for name in BINARIES if not archives(room, name)]
     if missing or others:
         prepare(room)
@@ -47,7 +48,7 @@ def fetch(room):
         run(room, "apt-get", "source", "--download-only", name)
     for name in others:
         run(room, "apt-get", "download", name)
-    found = {name: archives(room, name) for name in SOURCES + BINARIES}
+    found = {name: archives(room, name) for name in sources + BINARIES}
     for name in found:
         if not found[name]:
             print(f"corpus: left out, {name}: it could not be fetched")

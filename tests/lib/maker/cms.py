@@ -2,7 +2,9 @@
 
 import os
 
+from ..octets import tlv
 from .signed import RECEIVERS, SIGNERS
+from .workshop import Made
 
 CIPHERS = ("-aes-128-cbc", "-aes-192-cbc", "-aes-256-cbc", "-des3", "-aes-128-gcm", "-aes-256-gcm", "-camellia128")
 SECRET = "000102030405060708090a0b0c0d0e0f"
@@ -34,6 +36,25 @@ def signed(shop):
     if "-noattr" in words and ("-cades" in words or "-receipt_request_all" in words):
         words.remove("-noattr")
     add(shop, "signed", " ".join(words), *words)
+
+
+# The octets of a SEQUENCE, which stand in signed data that is then made PKCS #7.
+CONTENTS = bytes.fromhex("300d06012a3008040662617274656e0500")
+OTHER_TYPES = ("1.3.6.1.4.1.311.2.1.4", "1.3.6.1.4.1.311.10.1", "1.2.3.4")
+
+
+def of_other_content(shop):
+    """Signed data of PKCS #7 whose content is a SEQUENCE (RFC 2315 section 9.1): that of CMS, with another tag of the content. The
+    contents octets are what is signed (section 9.3)."""
+    shop.write("contents.bin", CONTENTS)
+    string, sequence = (tlv(0xA0, tlv(tag, CONTENTS)) for tag in (0x04, 0x30))
+    for key in SIGNERS:
+        for kind in OTHER_TYPES:
+            name = shop.name("pkcs7", "der")
+            words = ["-sign", "-in", "contents.bin", "-signer", f"{key}.crt", "-inkey", f"{key}.key", "-econtent_type", kind, "-md", "sha256"]
+            octets = shop.run("cms", "-binary", "-nodetach", "-outform", "DER", *words)
+            shop.write(name, octets.replace(string, sequence))
+            shop.made.append(Made(shop.path(name), "CMS message", f"PKCS #7 of {kind}, signed by {key}", unasked="openssl cms reads it as CMS"))
 
 
 def enveloped(shop):
@@ -84,3 +105,4 @@ def cms_files(shop):
         enveloped(shop)
     others(shop)
     carried(shop)
+    of_other_content(shop)

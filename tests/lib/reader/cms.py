@@ -50,6 +50,21 @@ def add_encapsulated(rows, encoding):
         length_row(rows, string, "content", string.contents)
 
 
+def add_signed_content(rows, encoding):
+    """The content of signed data: an OCTET STRING, or in PKCS #7 a value of any type (RFC 5652 section 5.2.1)."""
+    fields = encoding.fields()
+    fields.take(0x06)
+    held = fields.option(0xA0)
+    fields.close()
+    inner = held.fields() if held else None
+    value = inner.next() if held else None
+    if value is None or value.tag == 0x04:
+        return add_encapsulated(rows, encoding)
+    inner.close()
+    add_type(rows, encoding.fields().next())
+    length_row(rows, value, "content", value.contents)
+
+
 def typed(encoding):
     """The identifier of a type and a value of any type, as another format has them."""
     fields = encoding.fields()
@@ -117,7 +132,7 @@ def signed_data(rows, fields):
     add_version(rows, fields)
     digests = fields.take(0x31).fields().rest()
     each_or_malformed(rows, digests, "digest algorithm", lambda found, it: add_algorithm(found, "digest algorithm", it.has(0x30)))
-    add_encapsulated(rows, fields.take(0x30))
+    add_signed_content(rows, fields.take(0x30))
     add_certificates(rows, fields.option(0xA0), fields.option(0xA1))
     each_or_malformed(rows, fields.take(0x31).fields().rest(), "signer", add_signer)
 
