@@ -3,31 +3,30 @@
 use crate::tests::same_in;
 use crate::tests::verify::data::CERTIFICATE;
 use der_asn1_types::FromDer;
-use der_path::PathError::{Empty, Refused};
-use der_path::{Inputs, PathError, Policy, Step, check_path};
+use der_path::PathError::{Empty, NotRead, Refused};
+use der_path::{Anchor, Inputs, PathError, Policy, Step, check_path};
 use der_pkix::certificate::Certificate;
 use std::alloc::Global;
 use std::test::Fail;
 
-// Returns the number of policies for a certificate so many times, up to two, after its own
-// subject.
-fn policies_told(
+// Returns the number of policies, and of what has to verify, for a certificate so many times, up
+// to two, after its own subject.
+fn counts_told(
     alloc: Global,
     octets: &[u8],
     count: usize,
     moment: u64,
     explicit_policy: bool,
-) -> Result<usize, PathError> {
-    let Ok(first) = Certificate::from_der(alloc, octets) else {
-        return Err(PathError::Unread(0));
+) -> Result<(usize, usize), PathError> {
+    let anchor = match Certificate::from_der(alloc, octets) {
+        Ok(certificate) => certificate,
+        Err(error) => return Err(NotRead(0, error)),
     };
-    let Ok(last) = Certificate::from_der(alloc, octets) else {
-        return Err(PathError::Unread(1));
+    let anchor = Anchor {
+        name: *anchor.tbs_certificate().subject(),
+        key: *anchor.tbs_certificate().subject_public_key_info(),
     };
-    let Ok(anchor) = Certificate::from_der(alloc, octets) else {
-        return Err(PathError::Unread(0));
-    };
-    let chain = [first, last];
+    let chain = [octets, octets];
     let policies = [Policy {
         octets: &[0x55, 0x1d, 0x20, 0x00],
     }];
@@ -37,14 +36,10 @@ fn policies_told(
         mapping_inhibit: false,
         explicit_policy,
         any_policy_inhibit: false,
+        constraints: None,
     };
-    match check_path(
-        alloc,
-        anchor.tbs_certificate().subject(),
-        &chain[..count.min(2)],
-        inputs,
-    ) {
-        Ok(found) => Ok(found.len()),
+    match check_path(alloc, &anchor, &chain[..count.min(2)], inputs) {
+        Ok(found) => Ok((found.policies.len(), found.verifications.len())),
         Err(error) => Err(error),
     }
 }
@@ -57,13 +52,13 @@ fn a_certificate_follows_its_own_subject(rt: HostRuntime) -> Result<(), Fail> {
     let rows = [
         (0, 2_524_607_999, false, Err(Empty)),
         (1, 2_524_607_998, false, Err(Refused(0, Step::Validity))),
-        (1, 2_524_607_999, false, Ok(0)),
+        (1, 2_524_607_999, false, Ok((0, 1))),
         (1, 2_524_608_000, true, Err(Refused(0, Step::Policies))),
-        (2, 2_524_608_000, false, Ok(0)),
+        (2, 2_524_608_000, false, Ok((0, 2))),
         (2, 2_524_608_001, false, Err(Refused(0, Step::Validity))),
     ];
     for (count, moment, explicit, wanted) in rows {
-        let found = policies_told(alloc, octets.as_slice(), count, moment, explicit);
+        let found = counts_told(alloc, octets.as_slice(), count, moment, explicit);
         same_in(&rt, &(count, moment, explicit), found, wanted);
     }
     Ok(())
