@@ -3,6 +3,7 @@
 use crate::tests::same_in;
 use crate::tests::verify::data::CERTIFICATE;
 use der_asn1_types::FromDer;
+use der_modules::copy_of;
 use der_path::PathError::{Empty, NotRead, Refused};
 use der_path::{Anchor, Inputs, PathError, Policy, Step, check_path};
 use der_pkix::certificate::Certificate;
@@ -23,8 +24,8 @@ fn counts_told(
         Err(error) => return Err(NotRead(0, error)),
     };
     let anchor = Anchor {
-        name: *anchor.tbs_certificate().subject(),
-        key: *anchor.tbs_certificate().subject_public_key_info(),
+        name: copy_of(anchor.tbs_certificate().subject()),
+        key: copy_of(anchor.tbs_certificate().subject_public_key_info()),
     };
     let chain = [octets, octets];
     let policies = [Policy {
